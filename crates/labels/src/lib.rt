@@ -1,0 +1,1 @@
+// The order of labels: definitions and their laws, no code.

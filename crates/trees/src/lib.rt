@@ -1,0 +1,1 @@
+// The plain tree: definitions and their laws, no code.

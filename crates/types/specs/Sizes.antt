@@ -1,0 +1,16 @@
+-- Sizes: 'What the hub holds' and 'Words and bytes lent' of document 01.
+use Prim.Native.Nat.{ℕ, _+_, _*_}
+use Rattle.types.specs.declared.Limits.{Limits}
+
+-- "A label is 1 to 64 bytes .. The table holds at most 512 labels"; "it would be the 13th node".
+-- Every other definition takes its sizes as a parameter.
+abbrev pub hub : Limits
+hub = record { slots = 512; width = 64; depth = 12 }
+
+-- "The table is 4,100 words": four, and eight for each slot
+abbrev pub tableLength : Limits → ℕ
+tableLength limits = 4 + 8 * limits .slots
+
+-- "The label store is 32,768 bytes, 64 for each slot"
+abbrev pub storeLength : Limits → ℕ
+storeLength limits = limits .slots * limits .width

@@ -1,0 +1,85 @@
+// The values that the calls of the label index take and give.
+ghost use mathlib.Core.Path.{_≡_};
+ghost use Rattle.types.specs.Sizes.{hub};
+
+// The sizes of an index: slots of the table, bytes of a label, nodes on a path from the root.
+pub struct Limits {
+    pub slots: usize,
+    pub width: usize,
+    pub depth: usize,
+}
+
+// The eight words of a slot.
+pub struct Row {
+    pub left: u16,
+    pub right: u16,
+    pub place: u16,
+    pub side: u16,
+    pub balance: u16,
+    pub len: u16,
+    pub value: u16,
+    pub spare: u16,
+}
+
+// Why a call is refused, in the order in which the reasons are looked for.
+pub enum Refusal {
+    WrongTable,
+    WrongStore,
+    EmptyLabel,
+    LongLabel,
+    WrongSlot,
+    BrokenWalk,
+    NotSound,
+    AlreadyHeld,
+    NotHeld,
+    Full,
+    ShortList,
+}
+
+// What a search says.
+pub enum SearchAnswer {
+    Found {
+        slot: usize,
+        value: u16,
+        visits: usize,
+        places: usize,
+    },
+    Absent {
+        visits: usize,
+        places: usize,
+    },
+    Refused(Refusal),
+}
+
+// What an insert or a delete says: the label's slot, and the counts of the search that it made.
+pub enum UpdateAnswer {
+    Updated {
+        slot: usize,
+        visits: usize,
+        places: usize,
+    },
+    Refused(Refusal),
+}
+
+// What a call says that has nothing else to tell: layout, the check, the first call of the view.
+pub enum DoneAnswer {
+    Done,
+    Refused(Refusal),
+}
+
+// What a listing says: how many slots it wrote.
+pub enum ListAnswer {
+    Listed(usize),
+    Refused(Refusal),
+}
+
+// The hub's index: 512 labels of at most 64 bytes.
+pub fn hub() -> Limits
+    ensures { λ r. ⌜ r ≡ hub ⌝ }
+{
+    Limits {
+        slots: 512,
+        width: 64,
+        depth: 12,
+    }
+}
