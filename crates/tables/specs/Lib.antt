@@ -1,0 +1,8 @@
+pub mod Words
+pub mod Prefix
+pub mod Written
+pub mod Steps
+pub mod Sound
+pub mod Outcomes
+pub mod Claims
+pub mod Cases
