@@ -1,0 +1,9 @@
+pub mod Numbers
+pub mod Order
+pub mod Alike
+pub mod Compare
+pub mod Results
+pub mod Ends
+pub mod Difference
+pub mod Late
+pub mod Equal
