@@ -1,0 +1,7 @@
+pub mod Views
+pub mod Heights
+pub mod Sides
+pub mod Sizes
+pub mod Rotations
+pub mod Balance
+pub mod Visits
