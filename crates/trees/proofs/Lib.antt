@@ -5,3 +5,15 @@ pub mod Sizes
 pub mod Rotations
 pub mod Balance
 pub mod Visits
+pub mod Entries
+pub mod SetIn
+pub mod Counts
+pub mod SlotCounts
+pub mod Allotment
+pub mod Linked
+pub mod Sorted
+pub mod MapLists
+pub mod MapLaws
+pub mod MapKept
+pub mod Searched
+pub mod ValidSteps
