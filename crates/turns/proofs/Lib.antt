@@ -1,1 +1,2 @@
 pub mod Rep
+pub mod Along
