@@ -1,6 +1,6 @@
 -- The computed difference place, and the order by it.
 -- `difference-is`: `difference` of two neighbours, one below the other, is their difference place.
--- `difference-symmetric`: it is the same from both sides.
+-- `place-of-mirrored`, `difference-symmetric`: it is the same from both sides.
 -- `difference-first`, `difference-second`: with a label it is at most one more than the label's length.
 -- `below-is-before`, `before-trans`: the order at the computed place, `Before`, follows from `Below`; it is transitive.
 -- `difference-of-outer`: for a before b before c, that of a and c is the smaller of the other two.
@@ -28,7 +28,7 @@ difference-is (held x) none-above below = place-unique (held-none-above x) below
 difference-is none-above b below = absurd (none-above-below below)
 
 -- both ways round a comparison ends at one place
-place-of-mirrored : (r : Comparison) → placeOf (mirrored r) ≡ placeOf r
+pub place-of-mirrored : (r : Comparison) → placeOf (mirrored r) ≡ placeOf r
 place-of-mirrored (smaller i) = refl
 place-of-mirrored (same i) = refl
 place-of-mirrored (larger i) = refl
