@@ -1,0 +1,9 @@
+pub mod Chunks
+pub mod Zeros
+pub mod Rows
+pub mod Parts
+pub mod Places
+pub mod Slots
+pub mod Readings
+pub mod Sounds
+pub mod Held
