@@ -1,0 +1,8 @@
+pub mod Reading
+pub mod Clauses
+pub mod Zeros
+pub mod Held
+pub mod SlotRows
+pub mod SlotParts
+pub mod Holds
+pub mod SoundIsWritten
