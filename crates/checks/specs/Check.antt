@@ -61,11 +61,11 @@ checkTree limits table store (suc left) (suc k) below above =
       ]
     ]
 
--- the free chain from a link is exactly so many slots long
+-- the free chain from a link is exactly so many slots long, all up to the high mark
 unfoldable pub checkChain : Limits → (table store : List ℕ) → (count link : ℕ) → Bool
 checkChain limits table store zero link = eqb link 0
 checkChain limits table store (suc count) link =
-    elim (leb 1 link && leb link (limits .slots)) [
+    elim (leb 1 link && leb link (highMark table)) [
       | true ↦ zeroBesidesLeft (rowAt table link)
           && (allZero (partAt limits store link) && checkChain limits table store count (rowAt table link .left))
       | false ↦ false

@@ -20,8 +20,8 @@ use Rattle.tables.specs.Words.{rowAt, partStart, partAt, labelAt, entryAt}
 use Rattle.tables.specs.Written.{nodeRow}
 use Rattle.tables.specs.Sound.{usedSlots, trueBalances, truePrefixes}
 use Rattle.tables.proofs.Represents.{NodeHeld, Represents}
-use Rattle.sounds.proofs.Clauses.{UsedSlot, used-of-test}
-use Rattle.sounds.proofs.Reading.{Stands, stands-none, stands-node, link-of-standing}
+use Rattle.tables.proofs.Clauses.{UsedSlot, used-of-test}
+use Rattle.tables.proofs.Reading.{Stands, stands-none, stands-node, link-of-standing}
 
 -- A slot's part ends within the store.
 part-within : (width slots k : ℕ) → 1 ≤ k → k ≤ slots → width * (k - 1) + width ≤ slots * width

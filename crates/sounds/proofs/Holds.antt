@@ -23,9 +23,9 @@ use Rattle.written.proofs.Chunks.{padded}
 use Rattle.written.proofs.Rows.{length-of-written-table, root-of-written, count-of-written, free-of-written}
 use Rattle.written.proofs.Rows.{mark-of-written, row-of-written, tables-extend}
 use Rattle.written.proofs.Parts.{length-of-written-store, part-of-written, stores-extend}
-use Rattle.sounds.proofs.Reading.{Stands, Follows, TreeRead, no-tree, a-tree, ChainRead, no-chain, a-chain}
-use Rattle.sounds.proofs.Reading.{tree-read, chain-read, link-of-standing, link-of-following}
-use Rattle.sounds.proofs.Clauses.{SoundParts, parts-of-test}
+use Rattle.tables.proofs.Reading.{Stands, Follows, TreeRead, no-tree, a-tree, ChainRead, no-chain, a-chain}
+use Rattle.tables.proofs.Reading.{tree-read, chain-read, link-of-standing, link-of-following}
+use Rattle.tables.proofs.Clauses.{SoundParts, parts-of-test}
 use Rattle.sounds.proofs.Zeros.{zeros-are-padding}
 use Rattle.sounds.proofs.Held.{length-of-part, represents-read}
 use Rattle.sounds.proofs.SlotRows.{tree-row-read, chain-row-read, zero-row-above}

@@ -1,5 +1,3 @@
-pub mod Reading
-pub mod Clauses
 pub mod Zeros
 pub mod Held
 pub mod SlotRows

@@ -26,8 +26,8 @@ use Rattle.tables.specs.Written.{treeLabel}
 use Rattle.tables.specs.Sound.{allZero, usedSlots, freedSlots}
 use Rattle.tables.proofs.Represents.{Represents}
 use Rattle.written.proofs.Chunks.{padded}
-use Rattle.sounds.proofs.Clauses.{UsedSlot, used-of-test, FreedSlot, freed-of-test}
-use Rattle.sounds.proofs.Reading.{Stands, stands-none, stands-node}
+use Rattle.tables.proofs.Clauses.{UsedSlot, used-of-test, FreedSlot, freed-of-test}
+use Rattle.tables.proofs.Reading.{Stands, stands-none, stands-node}
 use Rattle.sounds.proofs.Zeros.{zeros-dropped, zeros-taken, padded-by-zeros}
 use Rattle.sounds.proofs.Held.{length-of-part}
 

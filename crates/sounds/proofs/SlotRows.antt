@@ -21,8 +21,8 @@ use Rattle.tables.specs.Words.{slotStart, rowAt}
 use Rattle.tables.specs.Written.{firstOf, nodeRow, freeRow, treeRow, chainRow}
 use Rattle.tables.specs.Sound.{allZero, zeroBesidesLeft, freedSlots}
 use Rattle.tables.proofs.Represents.{Represents}
-use Rattle.sounds.proofs.Clauses.{FreedSlot, freed-of-test}
-use Rattle.sounds.proofs.Reading.{Follows, follows-none, follows-slot, link-of-following}
+use Rattle.tables.proofs.Clauses.{FreedSlot, freed-of-test}
+use Rattle.tables.proofs.Reading.{Follows, follows-none, follows-slot, link-of-following}
 use Rattle.sounds.proofs.Zeros.{zero-at}
 
 module _ (limits : Limits) (table store : List ℕ) (k : ℕ) where

@@ -1,2 +1,4 @@
 pub mod Cases
 pub mod Represents
+pub mod Reading
+pub mod Clauses

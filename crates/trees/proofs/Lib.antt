@@ -1,4 +1,5 @@
 pub mod Views
+pub mod Passing
 pub mod Heights
 pub mod Sides
 pub mod Sizes

@@ -2,18 +2,23 @@
 -- Stands: a tree stands at a link, each node in a slot of the table; Follows: a chain of slots goes on from a link.
 -- tree-read, chain-read: what is read stands at its link.
 -- link-of-standing, link-of-following: the link is the one of what stands there.
+-- stands-when-read, follows-when-read: a tree that is read stands at its link, and a chain goes on from it.
+-- read-when-follows: a chain that goes on from a link, and is not too long, is read there.
 use mathlib.Core.List.{List, [], _∷_}
 use mathlib.Core.Path.{_≡_, refl}
 use mathlib.Core.Bool.{Bool, true, false}
 use Prim.Native.Nat.{ℕ, zero, suc, _≤_}
 use native.Mathlib.Omega.{arith}
+use lib.ListN.{length}
+use borrow.Author.Tests.{le-ltb}
 use Rattle.types.specs.declared.Limits.{Limits}
 use Rattle.trees.specs.Trees.{Tree, empty, node}
 use Rattle.trees.proofs.Views.{Ltb, is-below, not-below, ltb-view}
 use Rattle.tables.specs.Words.{rowAt, entryAt}
 use Rattle.tables.specs.Written.{linkOf, firstOf}
 use Rattle.tables.specs.Sound.{Reading, unreadable, reads, readNode, readTree}
+use Rattle.tables.specs.Written.{linkOf, firstOf}
 use Rattle.tables.specs.Sound.{Chain, endless, chain, linkedTo, readChain}
 
 -- a tree stands at a link: nothing at link 0, at the link k a node with the entry of slot k and the sons at its links
 pub data Stands (limits : Limits) (table store : List ℕ) : Tree → ℕ → Type 0 where
@@ -73,6 +78,28 @@ module _ (limits : Limits) (table : List ℕ) where
   chain-read (suc left) zero = a-chain follows-none
   chain-read (suc left) (suc k) =
       slot-read k (ltb-view (limits .slots) (suc k)) (chain-read left (rowAt table (suc k) .left))
+
+-- A tree that is read at a link stands there.
+pub stands-when-read : {limits : Limits} {table store : List ℕ} {link : ℕ} {x : Reading} {t : Tree}
+    → TreeRead limits table store link x → x ≡ reads t → Stands limits table store t link
+stands-when-read no-tree is = let z : _≡_ {A = ℕ} 0 1 = cc in absurd (omega arith)
+stands-when-read {t = t} (a-tree {t = u} stands) is = let same : u ≡ t = cc in rw (← same) stands
+
+-- A chain that is read at a link goes on from there.
+pub follows-when-read : {limits : Limits} {table : List ℕ} {link : ℕ} {x : Chain} {list : List ℕ}
+    → ChainRead limits table link x → x ≡ chain list → Follows limits table list link
+follows-when-read no-chain is = let z : _≡_ {A = ℕ} 0 1 = cc in absurd (omega arith)
+follows-when-read {list = list} (a-chain {list = one} follows) is = let same : one ≡ list = cc in rw (← same) follows
+
+-- A chain that goes on from a link, and is not too long, is read there.
+pub read-when-follows : {limits : Limits} {table list : List ℕ} {link : ℕ} → Follows limits table list link
+    → (left : ℕ) → length list ≤ left → readChain limits table left link ≡ chain list
+read-when-follows follows-none zero fits = refl
+read-when-follows follows-none (suc left) fits = refl
+read-when-follows (follows-slot {k} low up more) zero fits = absurd (omega arith)
+read-when-follows (follows-slot {k = zero} low up more) (suc left) fits = absurd (omega arith)
+read-when-follows {limits} (follows-slot {k = suc k} low up more) (suc left) fits =
+    rw (le-ltb (limits .slots) (suc k) up, readChain, read-when-follows more left (omega arith))
 
 -- A tree's link is the link that it stands at.
 pub link-of-standing : {limits : Limits} {table store : List ℕ} {t : Tree} {link : ℕ}

@@ -1,21 +1,24 @@
 -- The soundness test, taken apart into what each part of it says.
--- SoundParts, parts-of-test: what the test says of the whole.
+-- SoundParts, parts-of-test, test-of-parts: what the test says of the whole.
+-- SoundRead, read-of-sound, sound-of-read: what soundness says: that a tree and a chain are read and pass the test.
 -- UsedSlot, used-of-test: what it says of a slot in use. FreedSlot, freed-of-test: what it says of a freed slot.
 use mathlib.Core.List.{List, _∷_, _++_}
-use mathlib.Core.Path.{_≡_}
+use mathlib.Core.Path.{_≡_, refl}
 use mathlib.Core.Bool.{true, _&&_}
 use Prim.Native.Nat.{ℕ, _+_, _*_, _≤_}
 use lib.ListN.{drop}
-use borrow.Author.Tests.{leb-true, eqb-true}
+use borrow.Author.Tests.{leb-true, le-leb, eqb-true, eq-eqb}
 use Rattle.types.specs.declared.Limits.{Limits}
 use Rattle.labels.specs.Neighbours.{none-below, none-above}
 use Rattle.trees.specs.Trees.{Tree, labels, slots, size}
 use Rattle.trees.specs.Heights.{isBalanced}
 use Rattle.trees.specs.Valid.{ascends, exactlyUpTo}
 use Rattle.trees.proofs.Views.{both-true}
-use Rattle.tables.specs.Words.{labelsHeld, highMark, rowAt, partAt}
+use Rattle.tables.specs.Words.{rootLink, labelsHeld, firstFree, highMark, rowAt, partAt}
+use Rattle.tables.specs.Sound.{Reading, unreadable, reads, readTree, Chain, endless, chain, readChain}
 use Rattle.tables.specs.Sound.{allZero, usedSlot, usedSlots, zeroBesidesLeft, freedSlots, trueBalances, truePrefixes}
-use Rattle.tables.specs.Sound.{wordsAndBytes, counted, soundAs}
+use Rattle.tables.specs.Sound.{wordsAndBytes, counted, soundAs, soundReading, sound}
+use Rattle.trees.proofs.Passing.{and-true, false-not-true}
 
 -- what the soundness test says of the tree and the chain that were read
 pub record SoundParts (limits : Limits) (table store : List ℕ) (t : Tree) (freed : List ℕ) : Type 0 where
@@ -62,6 +65,53 @@ parts-of-test passed =
       prefixes = prefixes;
       allotted = allotted;
     }
+
+-- What keeps each part passes the test.
+pub test-of-parts : {limits : Limits} {table store : List ℕ} {t : Tree} {freed : List ℕ}
+    → SoundParts limits table store t freed → soundAs limits table store t freed ≡ true
+unfolding soundAs wordsAndBytes counted
+test-of-parts parts =
+    and-true
+    (and-true (parts .used)
+    (and-true (parts .free)
+    (and-true (le-leb _ _ (parts .within)) (and-true (parts .words-above) (parts .bytes-above)))))
+    (and-true (and-true (eq-eqb _ _ (parts .held)) (le-leb _ _ (parts .room)))
+    (and-true (parts .ascending)
+    (and-true (and-true (parts .balanced) (parts .balances)) (and-true (parts .prefixes) (parts .allotted)))))
+
+-- a tree and a chain are read at the table's links, and pass the test
+pub record SoundRead (limits : Limits) (table store : List ℕ) : Type 0 where
+  pub tree : Tree
+  pub freed : List ℕ
+  pub tree-read : readTree limits table store (limits .depth) (rootLink table) ≡ reads tree
+  pub chain-read : readChain limits table (limits .slots) (firstFree table) ≡ chain freed
+  pub parts : SoundParts limits table store tree freed
+
+module _ (limits : Limits) (table store : List ℕ) where
+  -- In a sound table a tree and a chain are read, and pass the test.
+  pub read-of-sound : sound limits table store ≡ true → SoundRead limits table store
+  unfolding sound
+  read-of-sound =
+      go (readTree limits table store (limits .depth) (rootLink table)) refl
+      (readChain limits table (limits .slots) (firstFree table)) refl
+    where
+      go : (x : Reading) → readTree limits table store (limits .depth) (rootLink table) ≡ x
+          → (y : Chain) → readChain limits table (limits .slots) (firstFree table) ≡ y
+          → soundReading limits table store x y ≡ true → SoundRead limits table store
+      go unreadable tree-is y chain-is passed = false-not-true passed
+      go (reads t) tree-is endless chain-is passed = false-not-true passed
+      go (reads t) tree-is (chain freed) chain-is passed = record {
+        tree = t;
+        freed = freed;
+        tree-read = tree-is;
+        chain-read = chain-is;
+        parts = parts-of-test passed;
+      }
+
+  -- A table in which a tree and a chain are read that pass the test is sound.
+  pub sound-of-read : SoundRead limits table store → sound limits table store ≡ true
+  unfolding sound
+  sound-of-read is = rw (is .tree-read, is .chain-read) (test-of-parts (is .parts))
 
 -- what the test of a slot in use says
 pub record UsedSlot (limits : Limits) (table store : List ℕ) (k : ℕ) : Type 0 where

@@ -1,0 +1,9 @@
+pub mod OnceEach
+pub mod NodeTests
+pub mod TreeWalks
+pub mod FineTrees
+pub mod FreeChains
+pub mod ChainWalks
+pub mod AllottedSlots
+pub mod WalksPass
+pub mod SoundByWalks
