@@ -1,0 +1,4 @@
+pub mod Slots
+pub mod Renewals
+pub mod Inserts
+pub mod Deletes
