@@ -1,5 +1,6 @@
 -- The smallest node taken out of a tree in the rows.
 -- occurrences-of-rest: the tree's slots are the smallest node's and those of the rest.
+-- root-has-row: the root of a tree whose smallest node is to be taken out has a row.
 -- Holds: what a node's row holds wherever the node stands in the tree.
 -- Pops, pop-refines: `popLeast` gives the smallest node's slot and the tree without it, between that node's label and
 -- the window's end, and touches the slots of the rest alone.
@@ -90,8 +91,8 @@ pop-level a d b e r p q table o kept order once rep done =
     let m = withoutLeast a d b .least in
     let rest = withoutLeast a d b .rest in
     let above = least-above p (held (e .label)) a d b (order .on-left) in
-    shrunk-level left table (held (m .label)) q (node a d b) e r rest (slots rest) (slots (rebalanced rest e r)) (o .rest)
-    (shrunk-without-least a d b (kept .near-kept))
+    shrunk-level left table (held (m .label)) q (node a d b) e r rest (slots rest) (slots (rebalanced rest e r))
+    (o .rest) (shrunk-without-least a d b (kept .near-kept))
     (record {
       kept = kept;
       order = record { above = above .below; below = order .below; on-left = above .rest; on-right = order .on-right };
@@ -121,8 +122,9 @@ pop-refines (node a d b) e r p q table zero kept order once rep fits = absurd (o
 pop-refines (node a d b) e r p q table (suc height′) kept order once rep fits =
     let within : Once (slots (node a d b)) = λ k. omega (arith, once k, occurrences-of-node k (node a d b) e r) in
     let low = order .on-left in
-    let done = pop-refines a d b p (held (e .label)) table height′ (kept .near-kept) low within (rep .1) (omega arith) in
-    let has = root-has-row a d b table (held (withoutLeast a d b .least .label)) (held (e .label)) (rep .1) in
+    let here = held (e .label) in
+    let done = pop-refines a d b p here table height′ (kept .near-kept) low within (rep .1) (omega arith) in
+    let has = root-has-row a d b table (held (withoutLeast a d b .least .label)) here (rep .1) in
     rw (pop-below height′ (e .slot) (d .slot) table (λ i. rep .0 .row i .left) (λ none. omega arith))
     (record {
       least = done .least;

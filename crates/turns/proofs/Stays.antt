@@ -1,5 +1,6 @@
 -- What stays in the rows where an update touches other slots.
 -- frame-of-put: a stored row touches its own slot.
+-- Within: the slots of one list are among those of another.
 -- frame-both: two updates one after the other.
 -- stands-framed, rep-apart: a node, and a tree, whose slots an update does not touch stand after it.
 -- refines-after: an outcome seen from an earlier table.
