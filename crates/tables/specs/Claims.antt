@@ -5,7 +5,7 @@ use mathlib.Core.Option.{Option, none, some}
 use mathlib.Core.Path.{_≡_}
 use mathlib.Core.Bool.{true}
 use Prim.Native.Nat.{ℕ, _+_, _≤_, _<_}
-use lib.ListN.{length, take}
+use lib.ListN.{length, take, drop}
 use Rattle.types.specs.declared.Limits.{Limits}
 use Rattle.types.specs.Sizes.{tableLength, storeLength}
 use Rattle.types.specs.Answers.{Answer, found, absent, updated, listed, done, refused}
@@ -15,7 +15,7 @@ use Rattle.trees.specs.Heights.{least, Deepest}
 use Rattle.trees.specs.Searches.{fullSearch}
 use Rattle.trees.specs.Plain as plain
 use Rattle.trees.specs.Plain.{State, fresh, Call, soughtBy, plainStep}
-use Rattle.trees.specs.Valid.{Valid}
+use Rattle.trees.specs.Valid.{Valid, ascends}
 use Rattle.trees.specs.Map.{Pair, lookup, insertion, removal, mapOf}
 use Rattle.tables.specs.Words.{rowAt, labelAt}
 use Rattle.tables.specs.Written.{Memory, written}
@@ -46,6 +46,10 @@ pub record SoundIsWritten (limits : Limits) : Type 0 where
 abbrev pub mapIn : Limits → Memory → List Pair
 mapIn limits m = mapOf (stateOf limits (m .table) (m .store) .tree)
 
+-- the label of a slot, as the view shows it
+abbrev pub labelIn : Limits → Memory → ℕ → Label
+labelIn limits m k = labelAt limits (m .store) k (rowAt (m .table) k .len)
+
 pub record LabelFits (limits : Limits) (x : Label) : Type 0 where
   pub some : 1 ≤ length x
   pub short : length x ≤ limits .width
@@ -59,9 +63,12 @@ valueSaid (listed count) = none
 valueSaid done = none
 valueSaid (refused number) = none
 
--- search answers as lookup, and is not refused
+-- search answers as lookup, with the slot of the label, and is not refused
 pub record SearchLooksUp (limits : Limits) (m : Memory) (x : Label) : Type 0 where
   pub value : valueSaid (searchOutcome limits (m .table) (m .store) x) ≡ lookup x (mapIn limits m)
+  pub slot :
+      (k v visits places : ℕ) → searchOutcome limits (m .table) (m .store) x ≡ found k v visits places
+      → labelIn limits m k ≡ x
   pub answered : (number : ℕ) → searchOutcome limits (m .table) (m .store) x ≡ refused number → ⊥
 
 -- an update's answer, as the map has it: done, or refused by a number
@@ -104,16 +111,16 @@ pub record UpdatesMap (limits : Limits) (m : Memory) (x : Label) (value : ℕ) :
       mapIn limits (updateOutcome limits (plain.delete x) (m .table) (m .store) .memory) ≡ removal x (mapIn limits m)
   pub delete-sound : Sound limits (updateOutcome limits (plain.delete x) (m .table) (m .store) .memory)
 
--- the label of a slot, as the view shows it
-abbrev pub labelIn : Limits → Memory → ℕ → Label
-labelIn limits m k = labelAt limits (m .store) k (rowAt (m .table) k .len)
-
--- a listing with room gives the number of labels, and the slots of the labels in ascending order
+-- a listing with room gives the number of labels, and the slots of the labels in ascending order; "later words stay"
 pub record ListsAscending (limits : Limits) (m : Memory) (list : List ℕ) : Type 0 where
   pub count : listingOutcome limits (m .table) (m .store) list .answer ≡ listed (length (mapIn limits m))
   pub labels :
       map (labelIn limits m) (take (length (mapIn limits m)) (listingOutcome limits (m .table) (m .store) list .list))
       ≡ map (λ p. p .label) (mapIn limits m)
+  pub ascending : ascends (map (λ p. p .label) (mapIn limits m)) ≡ true
+  pub later :
+      drop (length (mapIn limits m)) (listingOutcome limits (m .table) (m .store) list .list)
+      ≡ drop (length (mapIn limits m)) list
 
 -- The claim of demand 2, for every sound table and every label.
 pub record OrderedMap (limits : Limits) : Type 0 where
@@ -152,9 +159,10 @@ pub record CallAgrees (limits : Limits) (c : Call) (m : Memory) (s : State) : Ty
   -- "The words and bytes after each call are the plain tree and its freed slots, written out"
   pub memory : callOutcome limits c m .memory ≡ written limits (plainStep (limits .slots) (limits .width) c s .state)
 
--- the calls of a list, one after the other; the plain tree is fed the calls alone
+-- the calls of a list, one after the other; the plain tree is fed the calls alone; with no call left, and so for the
+-- empty list too, the words and bytes are the plain tree and its freed slots, written out
 abbrev pub CallsAgree : Limits → List Call → Memory → State → Type 0
-CallsAgree limits [] m s = Unit {0}
+CallsAgree limits [] m s = m ≡ written limits s
 CallsAgree limits (c ∷ calls) m s =
     CallAgrees limits c m s
     × CallsAgree limits calls (callOutcome limits c m .memory) (plainStep (limits .slots) (limits .width) c s .state)

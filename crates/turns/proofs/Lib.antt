@@ -24,3 +24,4 @@ pub mod Pops
 pub mod Nexts
 pub mod Cuts
 pub mod Deletes
+pub mod Recursions

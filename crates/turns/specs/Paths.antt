@@ -1,4 +1,6 @@
--- Insert and delete along a path of sides from the root, in a table's words. A path is a number: its lowest bit is the first side, 1 for right.
+-- Insert and delete along a path of sides from the root, in a table's words.
+-- A path is a number: its lowest bit is the first side, 1 for right.
+use mathlib.Core.Path.{_≡_}
 use mathlib.Core.List.{List, [], _∷_}
 use mathlib.Core.Bool.{Bool, true, false, cond}
 use Prim.Native.Nat.{ℕ, zero, suc, _+_, _*_, _/_, _%_}
@@ -9,7 +11,7 @@ use Rattle.words.specs.Rows.{putRow}
 use Rattle.turns.specs.declared.Rebuilt.{Rebuilt}
 use Rattle.turns.specs.declared.Popped.{Popped}
 use Rattle.turns.specs.Rows.{rowOn, relinked, prefixed}
-use Rattle.turns.specs.Turns.{Turned, outcome, grow, shrink}
+use Rattle.turns.specs.Turns.{Turned, Yields, outcome, grow, shrink}
 
 abbrev pub bitOf : Side → ℕ
 bitOf left = 0
@@ -34,6 +36,11 @@ pub record Taken : Type 0 where
   pub rest : Turned
   pub least : ℕ
 
+-- a table and a subtree without its smallest node that an update leaves
+pub record Pops (taken : Taken) (after : List ℕ) (popped : Popped) : Type 0 where
+  pub yields : Yields (taken .rest) after (popped .rest)
+  pub lowest : popped .least ≡ taken .least
+
 -- the subtree at c, at most so high, without its smallest node
 unfoldable pub popLeast : (height : ℕ) → List ℕ → ℕ → Taken
 popLeast zero table c = record { rest = outcome table 0 true; least = 0 }
@@ -55,7 +62,8 @@ unfoldable pub cut : (height : ℕ) → List ℕ → (c place side : ℕ) → Tu
 cut height table c place side =
     let row = rowAt table c in
     let popped = popLeast height table (row .right) in
-    let moved = shrink true (putLeast (popped .rest .table) c (popped .least) place side) (popped .least) (popped .rest .top) in
+    let put = putLeast (popped .rest .table) c (popped .least) place side in
+    let moved = shrink true put (popped .least) (popped .rest .top) in
     cond (eqb (row .left) 0) (outcome table (row .right) false)
     (cond (eqb (row .right) 0) (outcome table (row .left) false) moved)
 

@@ -1,10 +1,12 @@
--- Turns of a tree in a table's words. In every row read here the near son is on the left; the node c is the subtree's root.
+-- Turns of a tree in a table's words. In every row read here the near son is on the left; c is the subtree's root.
+use mathlib.Core.Path.{_≡_}
 use mathlib.Core.List.{List}
 use mathlib.Core.Bool.{Bool, true, false, not, cond}
 use Prim.Native.Nat.{ℕ}
 use lib.Dec.{eqb}
 use Rattle.types.specs.declared.Row.{Row}
 use Rattle.turns.specs.declared.Rebuilt.{Rebuilt}
+use Rattle.turns.specs.declared.Balances.{Balances}
 use Rattle.turns.specs.Rows.{rowOn, putOn, relinked, raised, lowered}
 
 -- an update's outcome: the table, and the subtree
@@ -15,21 +17,55 @@ pub record Turned : Type 0 where
 abbrev pub outcome : List ℕ → ℕ → Bool → Turned
 outcome table link tall = record { table = table; top = record { link = link; tall = tall } }
 
+-- a table and a subtree that an update leaves
+pub record Yields (turned : Turned) (after : List ℕ) (rebuilt : Rebuilt) : Type 0 where
+  pub stored : after ≡ turned .table
+  pub handed : rebuilt ≡ turned .top
+
 -- the near son of c has a new link
 unfoldable pub withSon : Bool → List ℕ → (c son : ℕ) → List ℕ
 withSon flip table c son =
     let row = rowOn flip table c in
     putOn flip table c (relinked row son (row .right) (row .balance))
 
+-- the rows that one rotation stores: c's below its near son, and that son's above c
+abbrev pub lowOnce : Bool → (parent son : Row) → Row
+lowOnce flip parent son =
+    relinked (lowered flip parent son) (son .right) (parent .right) (cond (eqb (son .balance) 1) 0 1)
+
+abbrev pub highOnce : Bool → ℕ → (parent son : Row) → Row
+highOnce flip c parent son = relinked (raised flip parent son) (son .left) c (cond (eqb (son .balance) 1) 2 1)
+
 -- "one rotation": the near son rises over c. Where that son was even, the subtree stays as tall and both nodes lean.
 unfoldable pub turnOnce : Bool → List ℕ → ℕ → Turned
 turnOnce flip table c =
     let parent = rowOn flip table c in
     let son = rowOn flip table (parent .left) in
-    let even = eqb (son .balance) 1 in
-    let low = relinked (lowered flip parent son) (son .right) (parent .right) (cond even 0 1) in
-    let high = relinked (raised flip parent son) (son .left) c (cond even 2 1) in
-    outcome (putOn flip (putOn flip table c low) (parent .left) high) (parent .left) even
+    outcome (putOn flip (putOn flip table c (lowOnce flip parent son)) (parent .left) (highOnce flip c parent son))
+    (parent .left) (eqb (son .balance) 1)
+
+-- the balances after a double rotation, by the old balance of the node that rises
+abbrev pub balancesOf : ℕ → Balances
+balancesOf middle = record { outer = cond (eqb middle 2) 0 1; inner = cond (eqb middle 0) 2 1; top = 1 }
+
+-- the rows that a double rotation stores: the near son's, c's, and that of the node that rises over both
+abbrev pub outerTwice : Bool → (son middle : Row) → Row
+outerTwice flip son middle =
+    relinked (lowered (not flip) son middle) (son .left) (middle .left) (balancesOf (middle .balance) .outer)
+
+abbrev pub innerTwice : Bool → (parent son middle : Row) → Row
+innerTwice flip parent son middle =
+    relinked (lowered flip parent (raised (not flip) son middle)) (middle .right) (parent .right)
+    (balancesOf (middle .balance) .inner)
+
+abbrev pub topTwice : Bool → ℕ → (parent son middle : Row) → Row
+topTwice flip c parent son middle =
+    relinked (raised flip parent (raised (not flip) son middle)) (parent .left) c (balancesOf (middle .balance) .top)
+
+abbrev pub putTwice : Bool → List ℕ → ℕ → (parent son middle : Row) → List ℕ
+putTwice flip table c parent son middle =
+    let outer = putOn flip table (parent .left) (outerTwice flip son middle) in
+    putOn flip (putOn flip outer c (innerTwice flip parent son middle)) (son .right) (topTwice flip c parent son middle)
 
 -- "a double one": the far son of the near son rises over both
 unfoldable pub turnTwice : Bool → List ℕ → ℕ → Turned
@@ -37,11 +73,7 @@ turnTwice flip table c =
     let parent = rowOn flip table c in
     let son = rowOn flip table (parent .left) in
     let middle = rowOn flip table (son .right) in
-    let once = raised (not flip) son middle in
-    let outer = relinked (lowered (not flip) son middle) (son .left) (middle .left) (cond (eqb (middle .balance) 2) 0 1) in
-    let inner = relinked (lowered flip parent once) (middle .right) (parent .right) (cond (eqb (middle .balance) 0) 2 1) in
-    let top = relinked (raised flip parent once) (parent .left) c 1 in
-    outcome (putOn flip (putOn flip (putOn flip table (parent .left) outer) c inner) (son .right) top) (son .right) false
+    outcome (putTwice flip table c parent son middle) (son .right) false
 
 -- c is out of balance by two on the near side
 unfoldable pub turn : Bool → List ℕ → ℕ → Turned
@@ -61,7 +93,8 @@ lean flip table c =
 -- c over its near son, which was inserted into
 unfoldable pub grow : Bool → List ℕ → ℕ → Rebuilt → Turned
 grow flip table c son =
-    cond (son .tall) (lean flip (withSon flip table c (son .link)) c) (outcome (withSon flip table c (son .link)) c false)
+    cond (son .tall) (lean flip (withSon flip table c (son .link)) c)
+    (outcome (withSon flip table c (son .link)) c false)
 
 -- c over its near son, which was deleted from
 unfoldable pub shrink : Bool → List ℕ → ℕ → Rebuilt → Turned

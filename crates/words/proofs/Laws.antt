@@ -1,4 +1,4 @@
--- A stored row is read back, and the rows of the other slots stay.
+-- A stored row is read back, and the rows of the other slots stay. Eight stores in turn store a row.
 use Prim.Native.Nat.{ℕ, _+_, _-_, _*_, _≤_, _<_}
 use mathlib.Core.Path.{_≡_, refl, ap}
 use mathlib.Core.Logic.{_≢_}
@@ -78,3 +78,11 @@ row-put-other t k j r p q n =
 
 pub slot-put : (t : List ℕ) (k j : ℕ) (r : Row) → HasRow t j → HasRow (putRow t k r) j
 slot-put t k j r h = record { low = h .low; high = rw length-put-row (h .high) }
+
+-- eight stores in turn store a row
+pub stored-in-turn : (t : List ℕ) (k : ℕ) (r : Row) {b : ℕ} {t0 t1 t2 t3 t4 t5 t6 t7 : List ℕ} → b ≡ slotStart k
+    → t0 ≡ set t b (r .left) → t1 ≡ set t0 (b + 1) (r .right) → t2 ≡ set t1 (b + 2) (r .place)
+    → t3 ≡ set t2 (b + 3) (r .side) → t4 ≡ set t3 (b + 4) (r .balance) → t5 ≡ set t4 (b + 5) (r .len)
+    → t6 ≡ set t5 (b + 6) (r .value) → t7 ≡ set t6 (b + 7) (r .spare) → t7 ≡ putRow t k r
+unfolding putRow
+stored-in-turn t k r start left right place side balance len value spare = cc

@@ -1,4 +1,6 @@
 // The rows of a table: the eight words of a slot, read and written as one value. Slots are counted from 1.
+pub mod total;
+
 use types::Row;
 ghost use mathlib.Core.Path.{_≡_};
 ghost use Rattle.tables.specs.Words.{rowAt};

@@ -1,0 +1,27 @@
+-- The claims at the hub's limits: 512 labels of at most 64 bytes.
+-- hub-ordered-map, hub-cost-rule, hub-sound-is-written: demand 2, demand 3, and what sound tables are.
+-- hub-counts: a search visits at most 12 nodes and examines at most 76 places.
+use Rattle.types.specs.Sizes.{hub}
+use Rattle.trees.proofs.Sizes.{hub-depth}
+use Rattle.tables.specs.Claims.{SoundIsWritten, OrderedMap, CostRule}
+use Rattle.sounds.proofs.SoundIsWritten.{sound-is-written}
+use Rattle.demands.specs.Counts.{CountsWithin}
+use Rattle.demands.proofs.CostRule.{cost-rule}
+use Rattle.demands.proofs.OrderedMap.{ordered-map}
+use Rattle.demands.proofs.Counts.{counts-within}
+
+-- Demand 2 at the hub.
+pub hub-ordered-map : OrderedMap hub
+hub-ordered-map = ordered-map hub hub-depth
+
+-- Demand 3 at the hub.
+pub hub-cost-rule : CostRule hub
+hub-cost-rule = cost-rule hub hub-depth
+
+-- The sound tables and stores of the hub are exactly the written-out valid plain trees.
+pub hub-sound-is-written : SoundIsWritten hub
+hub-sound-is-written = sound-is-written hub hub-depth
+
+-- A search of any list of calls on what layout left visits at most 12 nodes and examines at most 76 places.
+pub hub-counts : CountsWithin hub 12 76
+hub-counts = counts-within hub hub-cost-rule

@@ -1,0 +1,17 @@
+pub mod Searches
+pub mod Outcomes
+pub mod Fresh
+pub mod CostRule
+pub mod MapSteps
+pub mod OnSound
+pub mod LabelsRead
+pub mod MapCalls
+pub mod Listings
+pub mod OrderedMap
+pub mod Counts
+pub mod Hub
+pub mod SoundAfter
+pub mod Computed
+pub mod CountsGiven
+pub mod RefutedSearches
+pub mod RefutedUpdates

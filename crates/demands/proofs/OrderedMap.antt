@@ -1,0 +1,24 @@
+-- Demand 2: on a sound table it is the plain ordered map.
+-- ordered-map: searches look up, updates insert and remove, listings ascend, on every sound table.
+use Prim.Native.Nat.{_≤_}
+use lib.ListN.{length}
+use Rattle.types.specs.declared.Limits.{Limits}
+use Rattle.trees.specs.Heights.{Deepest}
+use Rattle.tables.specs.Claims.{mapIn, SearchLooksUp, UpdatesMap, ListsAscending, OrderedMap}
+use Rattle.demands.proofs.OnSound.{of-sound}
+use Rattle.demands.proofs.MapCalls.{search-looks-up, updates-map}
+use Rattle.demands.proofs.Listings.{lists-ascending}
+
+-- On every sound table the calls are those of the plain ordered map.
+pub ordered-map : (limits : Limits) → Deepest (limits .slots) (limits .depth) → OrderedMap limits
+ordered-map limits deepest = record {
+  searches = λ m sound x fits.
+      of-sound limits deepest (λ m. SearchLooksUp limits m x)
+      (λ s valid. search-looks-up limits deepest s valid x fits) m sound;
+  updates = λ m sound x fits value.
+      of-sound limits deepest (λ m. UpdatesMap limits m x value)
+      (λ s valid. updates-map limits deepest s valid x fits value) m sound;
+  lists = λ m sound list room.
+      of-sound limits deepest (λ m. length (mapIn limits m) ≤ length list → ListsAscending limits m list)
+      (λ s valid. lists-ascending limits deepest s valid list) m sound room;
+}

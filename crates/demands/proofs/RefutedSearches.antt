@@ -1,0 +1,90 @@
+-- Trial versions of search that do not meet its contract, each refuted at a starred case or with only "a" held, at the
+-- hub's limits.
+-- fixed-search-fails, absent-always-fails, refused-always-fails, never-finding-fails: searches that answer at once.
+-- skipping-first-fails, stopping-at-zero-fails: searches that start a compare too late, or stop at byte zero.
+-- no-one-count: two answers with unlike counts do not give one number.
+-- fixed-search-counts-fail, invented-search-counts-fail: searches with counts that are not those of the steps.
+use mathlib.Core.List.{List, [], _∷_}
+use mathlib.Core.Option.{some}
+use mathlib.Core.Path.{_≡_, refl, sym, ap, _∙_}
+use Prim.Native.Nat.{ℕ}
+use native.Mathlib.Omega.{arith}
+use Rattle.types.specs.Sizes.{hub}
+use Rattle.types.specs.Answers.{Answer, absent, refused}
+use Rattle.labels.specs.Labels.{Label}
+use Rattle.trees.specs.Plain.{Call}
+use Rattle.tables.specs.Steps.{searchSteps}
+use Rattle.tables.specs.Cases.{a, b}
+use Rattle.demands.specs.Trials.{SearchVersion, MeetsSearch, NeverFinds, Count, visits, places, ofCounts}
+use Rattle.demands.specs.Trials.{countIn, countOf, SearchesAnswer, SearchesCount, SkipsFirst, StopsAtZero}
+use Rattle.demands.proofs.Computed.{after, fair-one, fair-two, searched, onlyA, shown}
+use Rattle.demands.proofs.CountsGiven.{search-counts}
+
+-- A count that an answer gives is no one number where two answers give unlike ones.
+pub no-one-count : (k : Count) (n v q v′ q′ : ℕ) → (v ≡ v′ → ⊥) → (q ≡ q′ → ⊥)
+    → ofCounts k v q ≡ n → ofCounts k v′ q′ ≡ n → ⊥
+no-one-count visits n v q v′ q′ unlike-visits unlike-places one other = unlike-visits (one ∙ sym other)
+no-one-count places n v q v′ q′ unlike-visits unlike-places one other = unlike-places (one ∙ sym other)
+
+module _ (f : SearchVersion) (meets : MeetsSearch f) where
+  -- what a version that meets the contract answers after calls
+  answered : (calls : List Call) (x : Label) → f (after calls .table) (after calls .store) x ≡ searched calls x
+  answered calls x = meets (after calls .table) (after calls .store) x
+
+-- One fixed answer fails.
+pub fixed-search-fails : (answer : Answer) (f : SearchVersion) → SearchesAnswer answer f → ¬ MeetsSearch f
+fixed-search-fails answer f fixed meets =
+    let fixed-then = fixed (after [] .table) (after [] .store) (a ∷ []) (fair-one []) in
+    let fixed-now = fixed (after onlyA .table) (after onlyA .store) (a ∷ []) (fair-one onlyA) in
+    let z : _≡_ {A = ℕ} 0 1 =
+    cc (answered f meets [] (a ∷ []), shown .none-held, answered f meets onlyA (a ∷ []), shown .one-held) in
+    omega arith
+
+-- 'Absent' at once fails, with any counts.
+pub absent-always-fails : (v q : ℕ) → ¬ MeetsSearch (λ table store x. absent v q)
+absent-always-fails v q = fixed-search-fails (absent v q) (λ table store x. absent v q) (λ table store x fair. refl)
+
+-- Constant refusal fails, by any number.
+pub refused-always-fails : (number : ℕ) → ¬ MeetsSearch (λ table store x. refused number)
+refused-always-fails number =
+    fixed-search-fails (refused number) (λ table store x. refused number) (λ table store x fair. refl)
+
+-- A search that never finds fails, whatever counts it gives.
+pub never-finding-fails : (f : SearchVersion) → NeverFinds f → ¬ MeetsSearch f
+never-finding-fails f never meets =
+    never (after onlyA .table) (after onlyA .store) (a ∷ []) (fair-one onlyA) 1 5 1 2
+    (answered f meets onlyA (a ∷ []) ∙ shown .one-held)
+
+-- A search that starts a compare after the node's place fails: it can't tell "b" from "a".
+pub skipping-first-fails : (f : SearchVersion) → SkipsFirst f → ¬ MeetsSearch f
+skipping-first-fails f skips meets =
+    let alike = skips (after onlyA .table) (after onlyA .store) (shown .held-one) a b []
+    (fair-one onlyA) in
+    let z : _≡_ {A = ℕ} 0 1 =
+    cc (answered f meets onlyA (a ∷ []), shown .one-held, answered f meets onlyA (b ∷ []), shown .other-first) in
+    omega arith
+
+-- A search that takes byte zero for the end fails: it can't tell "a" followed by a zero byte from "a".
+pub stopping-at-zero-fails : (f : SearchVersion) → StopsAtZero f → ¬ MeetsSearch f
+stopping-at-zero-fails f stops meets =
+    let alike = stops (after onlyA .table) (after onlyA .store) (a ∷ []) (fair-one onlyA)
+    (fair-two onlyA) in
+    let z : _≡_ {A = ℕ} 0 1 =
+    cc (answered f meets onlyA (a ∷ []), shown .one-held, answered f meets onlyA (a ∷ 0 ∷ []), shown .zero-after) in
+    omega arith
+
+-- A search that gives one fixed number for its visits, or for its places, fails.
+pub fixed-search-counts-fail : (k : Count) (n : ℕ) (f : SearchVersion)
+    → SearchesCount k n f → ¬ MeetsSearch f
+fixed-search-counts-fail k n f gives meets =
+    no-one-count k n 0 0 1 2 (omega arith) (omega arith)
+    (gives (after [] .table) (after [] .store) (a ∷ []) (fair-one []) _
+    (ap (countIn k) (answered f meets [] (a ∷ []) ∙ shown .none-held)))
+    (gives (after onlyA .table) (after onlyA .store) (a ∷ []) (fair-one onlyA) _
+    (ap (countIn k) (answered f meets onlyA (a ∷ []) ∙ shown .one-held)))
+
+-- A search that once gives another count than that of its steps fails.
+pub invented-search-counts-fail : (k : Count) (n : ℕ) (f : SearchVersion) (table store : List ℕ) (x : Label)
+    → countIn k (f table store x) ≡ some n → (n ≡ countOf k (searchSteps hub table store x) → ⊥) → ¬ MeetsSearch f
+invented-search-counts-fail k n f table store x given other meets =
+    other (search-counts k f meets table store x n given)

@@ -1,0 +1,33 @@
+-- What the cost rule says of the counts of one search in a list of calls ('The cost rule' of document 01).
+use mathlib.Core.List.{List, [], _∷_}
+use mathlib.Core.Path.{_≡_}
+use Prim.Native.Nat.{ℕ, _≤_}
+use lib.ListN.{length}
+use Rattle.types.specs.declared.Limits.{Limits}
+use Rattle.types.specs.Sizes.{tableLength, storeLength}
+use Rattle.labels.specs.Labels.{Label}
+use Rattle.trees.specs.Plain.{Call}
+use Rattle.tables.specs.Written.{Memory}
+use Rattle.tables.specs.Steps.{Walk, broken, searchSteps}
+use Rattle.tables.specs.Outcomes.{layoutOutcome, visitsOf, placesOf}
+use Rattle.tables.specs.Claims.{LabelFits, callOutcome}
+
+-- what a list of calls leaves
+abbrev pub afterList : Limits → List Call → Memory → Memory
+afterList limits [] m = m
+afterList limits (c ∷ calls) m = afterList limits calls (callOutcome limits c m .memory)
+
+-- a walk that is not broken, visits at most so many nodes and examines at most so many places
+pub record Few (visits places : ℕ) (w : Walk) : Type 0 where
+  pub whole : w ≡ broken → ⊥
+  pub visited : visitsOf w ≤ visits
+  pub examined : placesOf w ≤ places
+
+-- The claim: so is the search of every call that follows any list of calls on what layout left.
+abbrev pub CountsWithin : Limits → (visits places : ℕ) → Type 0
+CountsWithin limits visits places =
+    (table store : List ℕ) → length table ≡ tableLength limits → length store ≡ storeLength limits
+    → (calls : List Call) (x : Label) → LabelFits limits x
+    → Few visits places
+    (searchSteps limits (afterList limits calls (layoutOutcome limits table store .memory) .table)
+    (afterList limits calls (layoutOutcome limits table store .memory) .store) x)

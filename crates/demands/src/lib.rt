@@ -1,0 +1,1 @@
+// The demands of document 01 on the definitions of tables: proofs alone.

@@ -1,0 +1,17 @@
+-- `search::walks::son` meets its contract, by its test.
+use Rattle.search.specs.Walks.{sonOf}
+use Rattle.search.proofs.walks.son.Statement.{statement}
+use Rattle.search.proofs.walks.son.Tie as tie
+use Rattle.search.proofs.walks.son.Reads as reads
+use Rattle.search.proofs.walks.son.Lts as lts
+
+returns : tie.Need-returns
+unfolding sonOf
+returns c = rw (c .if1 .taken)
+
+returns-2 : tie.Need-returns-2
+unfolding sonOf
+returns-2 c = rw (c .if1 .left)
+
+pub son-spec : {M : Type 1} → statement M
+son-spec = tie.close (tie.spec returns returns-2)

@@ -1,0 +1,26 @@
+-- `turns::rotate::high_once` meets its contract. Each branch decides whether the near son is even.
+use borrow.Author.Tests.{eq-eqb, ne-eqb}
+use borrow.Author.Needs.{needs}
+use Rattle.turns.proofs.rotate.high_once.Statement.{statement}
+use Rattle.turns.proofs.rotate.high_once.Tie as tie
+
+raised-requires : tie.Need-raised-requires
+raised-requires c κs = search needs
+
+relinked-requires : tie.Need-relinked-requires
+relinked-requires c κs = search needs
+
+relinked-requires-2 : tie.Need-relinked-requires-2
+relinked-requires-2 c κs = search needs
+
+returns : tie.Need-returns
+returns c =
+    simp (← c .before .before .before .raised .ensures, eq-eqb _ _ (c .before .if1 .taken)) (c .relinked .ensures)
+
+returns-2 : tie.Need-returns-2
+returns-2 c =
+    simp (← c .before .before .before .raised .ensures, ne-eqb _ _ (c .before .if1 .left)) (c .relinked2 .ensures)
+
+pub high-once-spec : {M : Type 1} → statement M
+high-once-spec =
+    tie.close (tie.spec raised-requires relinked-requires relinked-requires-2 returns returns-2)
