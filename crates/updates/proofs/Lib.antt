@@ -1,1 +1,12 @@
 pub mod Traces
+pub mod InRows
+pub mod Roots
+pub mod FromRows
+pub mod FromParts
+pub mod Stored
+pub mod Fresh
+pub mod Taken
+pub mod Leaves
+pub mod LeafSet
+pub mod InsertTable
+pub mod InsertWritten
