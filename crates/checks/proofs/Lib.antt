@@ -1,3 +1,13 @@
+pub mod ZeroLaws
+pub mod PartLaws
+pub mod GapLaws
+pub mod NodeLaws
+pub mod OverLaws
+pub mod TreeLaws
+pub mod VisitLaws
+pub mod SonLaws
+pub mod ChainLaws
+pub mod SoundLaws
 pub mod OnceEach
 pub mod NodeTests
 pub mod TreeWalks

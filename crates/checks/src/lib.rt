@@ -1,7 +1,62 @@
-// The soundness test of a table and its store.
+// The soundness test of a table and its store: whether every word and byte is as a list of calls could leave it.
+// It changes nothing, and ends at the first word, byte or node that is not as it must be.
+pub mod nodes;
+pub mod walks;
+pub mod zeros;
+
+use types::Limits;
+ghost use mathlib.Core.Path.{_≡_};
+ghost use Rattle.words.specs.Limits.{SizesFit};
+ghost use Rattle.checks.specs.Check.{countIs, soundByWalks};
 
 // What the test of a subtree finds: it is not sound, or its height and the number of its nodes.
 pub enum Subtree {
     Unsound,
     Sound { height: usize, count: usize },
+}
+
+// How two labels lie that are to ascend: wrongly, or at their difference place, 0 where one of them is missing.
+pub enum Gap {
+    Wrong,
+    Place(usize),
+}
+
+// What the test of a node finds: it is not as it must be, or its links and its balance word.
+pub enum Node {
+    Wrong,
+    Fine {
+        smaller: usize,
+        larger: usize,
+        balance: u16,
+    },
+}
+
+// Whether a tree is sound and has so many nodes.
+fn count_is(held: usize, tree: Subtree) -> bool
+    ensures { λ r. ⌜ r ≡ countIs held tree ⌝ }
+{
+    match tree {
+        Subtree::Unsound => false,
+        Subtree::Sound { height: _, count } => count == held,
+    }
+}
+
+// The whole test.
+pub fn sound_within(limits: Limits, table: &[u16], store: &[u8]) -> bool
+    requires { ⌜ SizesFit limits (now table) (now store) ⌝ }
+    ensures { λ r. ⌜ r ≡ soundByWalks limits (now (table .entry)) (now (store .entry)) ⌝ }
+{
+    let held = table[1] as usize;
+    let high = table[3] as usize;
+    if high < held {
+        return false;
+    }
+    if !walks::unused_slots(limits, table, store, high) {
+        return false;
+    }
+    let tree = walks::check_tree(limits, table, store, limits.depth, table[0] as usize, 0, 0);
+    if !count_is(held, tree) {
+        return false;
+    }
+    walks::check_chain(limits, table, store, high, high - held, table[2] as usize)
 }

@@ -7,3 +7,4 @@ pub mod Ends
 pub mod Difference
 pub mod Late
 pub mod Equal
+pub mod Branches

@@ -137,7 +137,8 @@ module _ (limits : Limits) (table store : List ℕ) (x : Label) where
             (steps-node left (w .link) (w .p) (w .s) (omega arith) (omega arith) passed)) ∙ so)
 
         -- where the label is found, the walk ends
-        pub walk-found : (a : SearchAnswer) → t .found ≡ true → a ≡ foundAt w (rowAt table (w .link)) t → searchSays a ≡ whole
+        pub walk-found : (a : SearchAnswer) → t .found ≡ true → a ≡ foundAt w (rowAt table (w .link)) t
+            → searchSays a ≡ whole
         walk-found a is e =
             let none : t .examined + 0 ≡ t .examined = omega arith in rw e (rw (is, none) at walk-stepped)
 
@@ -153,8 +154,8 @@ module _ (limits : Limits) (table store : List ℕ) (x : Label) where
             rw e (sym goes ∙ rw is at walk-stepped)
 
 -- the outcome of a search that nothing turns away is the answer of the walk from the root
-pub outcome-walked : (limits : Limits) (table store : List ℕ) (x : Label) (a : Answer) → length table ≡ tableLength limits
-    → length store ≡ storeLength limits → (length x ≡ 0 → ⊥) → length x ≤ limits .width
+pub outcome-walked : (limits : Limits) (table store : List ℕ) (x : Label) (a : Answer)
+    → length table ≡ tableLength limits → length store ≡ storeLength limits → (length x ≡ 0 → ⊥) → length x ≤ limits .width
     → a ≡ answerFrom limits table store x (record { link = rootLink table; p = 1; s = 1; visits = 0; places = 0 })
     → a ≡ searchOutcome limits table store x
 unfolding answerFrom searchOutcome searchSteps

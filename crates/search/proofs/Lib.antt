@@ -1,4 +1,3 @@
-pub mod Branches
 pub mod Rows
 pub mod Turns
 pub mod Answers

@@ -1,5 +1,4 @@
 -- The rows that a walk may use, and the parts of a store.
--- `part-within`: a slot's part lies within the store.  `store-small`: a store's length fits a machine word.
 -- `unbroken`: where a walk is not broken its row is good, its link a slot's, and a node more may be visited.
 -- `room-left`: the last of these by itself.  `can-step`: the counts of a step there may be added.
 -- `good-read`, `spot-read`, `found-read`: what holds of a slot's row holds of the row that was read.
@@ -23,17 +22,6 @@ use Rattle.search.specs.declared.Spot.{Spot}
 use Rattle.search.specs.declared.Step.{Step}
 use Rattle.search.specs.Walks.{brokenAt, sonOf, spotAfter, foundAt}
 use Rattle.search.specs.Bounds.{GoodRow, Unbroken, CanStep}
-
--- the part of slot k lies within the parts of all slots
-pub part-within : (width slots k : ℕ) → 1 ≤ k → k ≤ slots → width * (k - 1) + width ≤ slots * width
-part-within width slots zero low high = omega arith
-part-within width slots (suc j) low high =
-    let e : suc j - 1 ≡ j = omega arith in
-    rw e (omega (arith, mul-suc width j, mul-le-mul-left width high, mul-comm width slots))
-
--- a store of these sizes has at most 4096 times 4096 bytes
-pub store-small : (limits : Limits) → LimitsFit limits → storeLength limits ≤ 16777216
-store-small limits fit = mul-le-mul (fit .slots) (fit .width)
 
 -- both parts of a test that failed
 or-false : (a b : Bool) → (a || b) ≡ false → (a ≡ false) × (b ≡ false)

@@ -39,8 +39,8 @@ module _ (p s d : ℕ) (c : Compared) where
   decide-larger e = rw (e, add-one (c .place))
 
 -- a comparison with the bytes of the store is one with the slot's label
-pub compared-of : (limits : Limits) (store : List ℕ) (x : Label) (w : Spot) (row : Row) (t : Step) (at : ℕ) (c : Compared)
-    → at ≡ partStart limits (w .link)
+pub compared-of : (limits : Limits) (store : List ℕ) (x : Label) (w : Spot) (row : Row) (t : Step)
+    (at : ℕ) (c : Compared) → at ≡ partStart limits (w .link)
     → comparisonOf c ≡ compareFrom (row .place) x (take (at + row .len - at) (drop at store))
     → t ≡ compareStep (comparisonOf c) (row .place) (w .p) (w .s)
     → t ≡ comparedStep limits store x w row

@@ -19,15 +19,10 @@ use Rattle.trees.proofs.Views.{both-true}
 use Rattle.tables.specs.Words.{rowAt, partStart, partAt, labelAt, entryAt}
 use Rattle.tables.specs.Written.{nodeRow}
 use Rattle.tables.specs.Sound.{usedSlots, trueBalances, truePrefixes}
+use Rattle.tables.proofs.Offsets.{part-within}
 use Rattle.tables.proofs.Represents.{NodeHeld, Represents}
 use Rattle.tables.proofs.Clauses.{UsedSlot, used-of-test}
 use Rattle.tables.proofs.Reading.{Stands, stands-none, stands-node, link-of-standing}
-
--- A slot's part ends within the store.
-part-within : (width slots k : ℕ) → 1 ≤ k → k ≤ slots → width * (k - 1) + width ≤ slots * width
-part-within width slots k low up =
-    let next : suc (k - 1) ≡ k = omega arith in
-    rw (← mul-suc, next, mul-comm slots width) (mul-le-mul-left width up)
 
 module _ (limits : Limits) (store : List ℕ) (bytes : length store ≡ storeLength limits)
     (k : ℕ) (low : 1 ≤ k) (up : k ≤ limits .slots) where

@@ -2,3 +2,4 @@ pub mod Cases
 pub mod Represents
 pub mod Reading
 pub mod Clauses
+pub mod Offsets

@@ -17,11 +17,20 @@ use Rattle.trees.specs.Plain as plain
 use Rattle.trees.specs.Plain.{State, fresh, Call, soughtBy, plainStep}
 use Rattle.trees.specs.Valid.{Valid, ascends}
 use Rattle.trees.specs.Map.{Pair, lookup, insertion, removal, mapOf}
-use Rattle.tables.specs.Words.{rowAt, labelAt}
+use Rattle.tables.specs.Words.{slotStart, rowAt, partStart, labelAt}
 use Rattle.tables.specs.Written.{Memory, written}
 use Rattle.tables.specs.Steps.{Walk, ended, searchSteps}
 use Rattle.tables.specs.Sound.{sound, stateOf}
 use Rattle.tables.specs.Outcomes.{Outcome, searchOutcome, updateOutcome, layoutOutcome, listingOutcome, replyAnswer, visitsOf, placesOf}
+
+-- ---- sizes
+
+-- The claim: offsets of slots and labels stay inside the lent lengths.
+pub record OffsetsInside (limits : Limits) : Type 0 where
+  pub row : (k : ℕ) → 1 ≤ k → k ≤ limits .slots → slotStart k + 8 ≤ tableLength limits
+  pub part : (k : ℕ) → 1 ≤ k → k ≤ limits .slots → partStart limits k + limits .width ≤ storeLength limits
+
+-- ---- sound tables
 
 -- a table and a store of the right lengths that are sound
 pub record Sound (limits : Limits) (m : Memory) : Type 0 where

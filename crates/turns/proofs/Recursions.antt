@@ -14,10 +14,10 @@ use Rattle.tables.specs.Words.{rowAt}
 use Rattle.turns.specs.declared.Rebuilt.{Rebuilt}
 use Rattle.turns.specs.declared.Popped.{Popped}
 use Rattle.turns.specs.Rows.{rowOn}
-use Rattle.turns.specs.Turns.{Turned, Yields, outcome, grow, shrink}
-use Rattle.turns.specs.Paths.{flipOf, insertAlong, Taken, Pops, popLeast, putLeast, cut, deleteAlong}
+use Rattle.turns.specs.Turns.{Yields, outcome, grow, shrink}
+use Rattle.turns.specs.Paths.{flipOf, insertAlong, Pops, popLeast, putLeast, cut, deleteAlong}
 
--- A path that is not empty goes on below the first node.
+-- An insert along a path that is not empty goes on below the first node.
 insert-step : (length path : ℕ) (table : List ℕ) (c slot : ℕ) → length ≢ 0 → insertAlong length path table c slot
     ≡ (let deeper = insertAlong (length - 1) (path / 2) table (rowOn (flipOf path) table c .left) slot in
     grow (flipOf path) (deeper .table) c (deeper .top))
@@ -25,6 +25,7 @@ unfolding insertAlong
 insert-step zero path table c slot some = absurd (some refl)
 insert-step (suc length) path table c slot some = simp sub-one
 
+-- So does a delete.
 delete-step : (length path height : ℕ) (table : List ℕ) (c place side : ℕ) → length ≢ 0
     → deleteAlong length path height table c place side
     ≡ (let deeper = deleteAlong (length - 1) (path / 2) height table (rowOn (flipOf path) table c .left) place side in
@@ -44,8 +45,8 @@ inserted-below length path table c slot some of-path of-row lower upper =
 
 -- The node c over its near son, out of which the node was taken.
 pub deleted-below : (length path height : ℕ) (table : List ℕ) (c place side : ℕ) → length ≢ 0
-    → {flip : Bool} {row : Row} {deeper rebuilt : Rebuilt} {below after : List ℕ} → flip ≡ flipOf path → row ≡ rowOn flip table c
-    → Yields (deleteAlong (length - 1) (path / 2) height table (row .left) place side) below deeper
+    → {flip : Bool} {row : Row} {deeper rebuilt : Rebuilt} {below after : List ℕ} → flip ≡ flipOf path
+    → row ≡ rowOn flip table c → Yields (deleteAlong (length - 1) (path / 2) height table (row .left) place side) below deeper
     → Yields (shrink flip below c deeper) after rebuilt
     → Yields (deleteAlong length path height table c place side) after rebuilt
 deleted-below length path height table c place side some of-path of-row lower upper =
@@ -59,6 +60,7 @@ unfolding popLeast
 popped-here zero table c some of-row none = absurd (some refl)
 popped-here (suc height) table c some {row} of-row none = simp (← of-row, eq-eqb (row .left) 0 none)
 
+-- The smallest node is below c where c has a left son.
 pop-step : (height : ℕ) (table : List ℕ) (c : ℕ) → height ≢ 0 → rowAt table c .left ≢ 0 → popLeast height table c
     ≡ (let deeper = popLeast (height - 1) table (rowAt table c .left) in
     record { rest = shrink false (deeper .rest .table) c (deeper .rest .top); least = deeper .least })
@@ -76,6 +78,7 @@ popped-below height table c some of-row more lower upper =
     let step = pop-step height table c some (λ none. more (ap (λ row. row .left) of-row ∙ none)) in
     record { yields = record { stored = cc step; handed = cc step }; lowest = cc step }
 
+-- A node with two sons gives its place to the smallest node of the right subtree.
 cut-step : (height : ℕ) (table : List ℕ) (c place side : ℕ) → rowAt table c .left ≢ 0 → rowAt table c .right ≢ 0
     → cut height table c place side
     ≡ (let popped = popLeast height table (rowAt table c .right) in

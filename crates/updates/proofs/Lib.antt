@@ -10,3 +10,17 @@ pub mod Leaves
 pub mod LeafSet
 pub mod InsertTable
 pub mod InsertWritten
+pub mod Naming
+pub mod Renewing
+pub mod Beside
+pub mod Spines
+pub mod Around
+pub mod Readied
+pub mod NextFields
+pub mod Freed
+pub mod Rooting
+pub mod Gone
+pub mod GoneParts
+pub mod TakenOut
+pub mod GoneRows
+pub mod DeleteWritten

@@ -1,5 +1,5 @@
 -- `compares::at_end` meets its contract, by the tests of its branches.
-use Rattle.compares.proofs.Branches.{branches}
+use Rattle.labels.proofs.Branches.{branches}
 use Rattle.compares.specs.Compares.{atEnd}
 use Rattle.compares.proofs.at_end.Statement.{statement}
 use Rattle.compares.proofs.at_end.Tie as tie

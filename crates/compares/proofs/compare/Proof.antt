@@ -59,10 +59,9 @@ returns c =
     let turn = tested .before .before .before .before in
     let reached = turn .before .loop .inv .1 .1 in
     let short = turn .before .before .shorter .ensures in
-    let found =
-    ends-unlike _ _ _ _ _ short reached _ (turn .loop-test .taken) (tested .before .differ .ensures) _ (tested .if1 .taken)
-    (c .unlike .ensures) in
-    (found, search needs)
+    let early = turn .loop-test .taken in
+    let differs = tested .before .differ .ensures in
+    (ends-unlike _ _ _ _ _ short reached _ early differs _ (tested .if1 .taken) (c .unlike .ensures), search needs)
 
 add-i : tie.Need-add-i Inv-loop μ-loop
 add-i c = omega arith

@@ -1,5 +1,5 @@
 -- `search::nodes::bad_row` meets its contract, by the tests of its branches.
-use Rattle.search.proofs.Branches.{branches}
+use Rattle.labels.proofs.Branches.{branches}
 use Rattle.tables.specs.Steps.{isBad}
 use borrow.Author.Needs.{needs}
 use Rattle.search.proofs.nodes.bad_row.Statement.{statement}

@@ -1,7 +1,8 @@
 -- `search::nodes::part_start` meets its contract: the part lies within the store, whose length fits a machine word.
 use mathlib.Core.Path.{refl}
 use native.Mathlib.Omega.{arith}
-use Rattle.search.proofs.Rows.{part-within, store-small}
+use Rattle.tables.proofs.Offsets.{part-within}
+use Rattle.words.proofs.Sizes.{store-small}
 use borrow.Author.Needs.{needs}
 use Rattle.search.proofs.nodes.part_start.Statement.{statement}
 use Rattle.search.proofs.nodes.part_start.Tie as tie

@@ -1,5 +1,5 @@
 -- `search::nodes::turn` meets its contract, by the tests of its branches.
-use Rattle.search.proofs.Branches.{branches}
+use Rattle.labels.proofs.Branches.{branches}
 use Rattle.search.specs.Walks.{turnOf}
 use Rattle.search.proofs.nodes.turn.Statement.{statement}
 use Rattle.search.proofs.nodes.turn.Tie as tie

@@ -1,8 +1,8 @@
 -- `search::walks::search_within` meets its contract: the refusals in their order, then the walk from the root.
 use native.Mathlib.Omega.{arith}
 use Rattle.tables.specs.Outcomes.{searchOutcome}
-use Rattle.search.proofs.Branches.{branches}
-use Rattle.search.proofs.Rows.{store-small}
+use Rattle.labels.proofs.Branches.{branches}
+use Rattle.words.proofs.Sizes.{store-small}
 use Rattle.search.proofs.Answers.{outcome-walked}
 use borrow.Author.Needs.{needs}
 use Rattle.search.proofs.walks.search_within.Statement.{statement}

@@ -17,7 +17,8 @@ returns : tie.Need-returns
 unfolding lowered
 returns c =
     let swapped = c .before .before in
-    simp (← swapped .before .exchanges .ensures, swapped .if1 .taken, ← c .before .to-parent .ensures) (c .prefixed .ensures)
+    simp (← swapped .before .exchanges .ensures, swapped .if1 .taken, ← c .before .to-parent .ensures)
+    (c .prefixed .ensures)
 
 returns-2 : tie.Need-returns-2
 unfolding lowered

@@ -1,0 +1,69 @@
+-- The visit of a node.
+-- `visit-outside`, `visit-wrong`, `visit-fine`: what a visit finds, from the tests on its way.
+-- `wrong-found`, `fine-found`: what is known where a visit finds a node wrong, and where it finds it fine.
+-- `node-short`: the label of a node that passes lies in its part of the store.
+use Prim.Native.Nat.{ℕ, _≤_, _<_}
+use mathlib.Core.Path.{_≡_, refl, sym, _∙_}
+use mathlib.Core.List.{List}
+use mathlib.Core.Bool.{Bool, true, false}
+use borrow.Author.Tests.{lt-ltb, le-ltb}
+use Rattle.types.specs.declared.Limits.{Limits}
+use Rattle.types.specs.declared.Row.{Row}
+use Rattle.labels.specs.Neighbours.{Neighbour}
+use Rattle.tables.specs.Words.{rowAt}
+use Rattle.checks.specs.Check.{nodeFine}
+use Rattle.checks.specs.Parts.{usedRow, fineBetween, visitedBy, visited}
+use Rattle.checks.specs.declared.Node.the-variants.{Wrong, Fine}
+use Rattle.checks.specs.declared.Subtree.{Subtree}
+use Rattle.checks.specs.declared.Subtree.the-variants.{Unsound}
+use Rattle.checks.proofs.PartLaws.{and-left, used-short}
+use Rattle.checks.proofs.TreeLaws.{found}
+
+-- a visit that finds the node wrong
+pub wrong-found : (outside fine : Bool) (row : Row) (s : Subtree) → visitedBy outside fine row ≡ Wrong
+    → Unsound ≡ found outside fine s
+wrong-found true fine row s e = refl
+wrong-found false true row s e = cc
+wrong-found false false row s e = refl
+
+-- what is known of a node that is fine
+pub record Passed (outside fine : Bool) (row : Row) (smaller larger balance : ℕ) : Type 0 where
+  pub inside : outside ≡ false
+  pub passed : fine ≡ true
+  pub left : smaller ≡ row .left
+  pub right : larger ≡ row .right
+  pub balanced : balance ≡ row .balance
+
+-- a visit that finds the node fine
+pub fine-found : (outside fine : Bool) (row : Row) (smaller larger balance : ℕ)
+    → visitedBy outside fine row ≡ Fine smaller larger balance
+    → Passed outside fine row smaller larger balance
+fine-found true fine row x y z e = record { inside = cc; passed = cc; left = cc; right = cc; balanced = cc }
+fine-found false true row x y z e = record { inside = refl; passed = refl; left = cc; right = cc; balanced = cc }
+fine-found false false row x y z e = record { inside = refl; passed = cc; left = cc; right = cc; balanced = cc }
+
+module _ (limits : Limits) (table store : List ℕ) where
+  -- a node that passes has a label that lies in its part of the store
+  pub node-short : (k : ℕ) (p s : Neighbour) → nodeFine limits table store k p s ≡ true
+      → rowAt table k .len ≤ limits .width
+  unfolding nodeFine usedRow
+  node-short k p s e =
+      used-short limits store k (rowAt table k) (and-left (usedRow limits store k (rowAt table k)) _ e)
+
+module _ (limits : Limits) (table store : List ℕ) (k below above : ℕ) where
+  -- the slot is out of range
+  pub visit-outside : limits .slots < k → Wrong ≡ visited limits table store k below above
+  unfolding visited
+  visit-outside h = rw (lt-ltb _ _ h)
+
+  module _ (row : Row) (read : row ≡ rowAt table k) (inside : k ≤ limits .slots) (t : Bool)
+      (tested : t ≡ fineBetween limits table store k below above) where
+    -- the node's test fails
+    pub visit-wrong : t ≡ false → Wrong ≡ visited limits table store k below above
+    unfolding visited
+    visit-wrong f = rw (le-ltb _ _ inside, sym tested ∙ f)
+
+    -- the node's test passes
+    pub visit-fine : t ≡ true → Fine (row .left) (row .right) (row .balance) ≡ visited limits table store k below above
+    unfolding visited
+    visit-fine e = rw (le-ltb _ _ inside, sym tested ∙ e, read)

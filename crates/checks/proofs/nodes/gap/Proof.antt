@@ -1,0 +1,31 @@
+-- `nodes::gap` meets its contract: one law for each order of the labels.
+use Rattle.checks.proofs.GapLaws.{gap-smaller, gap-same, gap-larger}
+use borrow.Author.Needs.{needs}
+use Rattle.checks.proofs.nodes.gap.Statement.{statement}
+use Rattle.checks.proofs.nodes.gap.Tie as tie
+
+compare-requires : tie.Need-compare-requires
+compare-requires c κs = search needs
+
+enum-told : tie.Need-enum-told
+enum-told c = search needs
+
+enum-told-2 : tie.Need-enum-told-2
+enum-told-2 c = search needs
+
+enum-told-3 : tie.Need-enum-told-3
+enum-told-3 c = search needs
+
+returns : tie.Need-returns
+returns c = search gap-smaller
+
+returns-2 : tie.Need-returns-2
+returns-2 c = search gap-same
+
+returns-3 : tie.Need-returns-3
+returns-3 c = search gap-larger
+
+pub gap-spec : {M : Type 1} → statement M
+gap-spec =
+    tie.close
+    (tie.spec compare-requires enum-told enum-told-2 enum-told-3 returns returns-2 returns-3)

@@ -1,0 +1,167 @@
+// The walks of the soundness test: over the tree, each node between the slots of its nearest smaller
+// and larger node above, along the free chain, and over the unused rest.
+use crate::Node;
+use crate::Subtree;
+use types::Limits;
+ghost use mathlib.Core.Path.{_≡_};
+ghost use Rattle.tables.specs.Prefix.{balanceOf};
+ghost use Rattle.tables.specs.Sound.{unusedSlots};
+ghost use Rattle.words.specs.Limits.{SizesFit};
+ghost use Rattle.checks.specs.Check.{over, checkTree, checkChain};
+ghost use Rattle.checks.specs.Fits.{SumsFit, SonsFit, VisitFits, WalkFits, ChainFits};
+ghost use Rattle.checks.specs.Parts.{visited};
+
+// The balance word over sons of two heights.
+fn balance_of(left: usize, right: usize) -> u16
+    ensures { λ r. ⌜ r ≡ balanceOf left right ⌝ }
+{
+    if right < left {
+        return 0;
+    }
+    if left < right {
+        return 2;
+    }
+    1
+}
+
+// A node over two sound sons of heights h and k, with c and d nodes.
+fn over_sound(balance: u16, h: usize, c: usize, k: usize, d: usize) -> Subtree
+    requires { ⌜ SumsFit h c k d ⌝ }
+    ensures { λ r. ⌜ r ≡ over balance (Subtree.Sound h c) (Subtree.Sound k d) ⌝ }
+{
+    if k + 1 < h {
+        return Subtree::Unsound;
+    }
+    if h + 1 < k {
+        return Subtree::Unsound;
+    }
+    if balance != balance_of(h, k) {
+        return Subtree::Unsound;
+    }
+    Subtree::Sound {
+        height: crate::nodes::larger(h, k) + 1,
+        count: c + d + 1,
+    }
+}
+
+// A node over a sound left son of height h with c nodes, and a right son.
+fn over_left(balance: u16, h: usize, c: usize, right: Subtree) -> Subtree
+    requires { ⌜ SonsFit h c right ⌝ }
+    ensures { λ r. ⌜ r ≡ over balance (Subtree.Sound h c) right ⌝ }
+{
+    match right {
+        Subtree::Unsound => Subtree::Unsound,
+        Subtree::Sound { height, count } => over_sound(balance, h, c, height, count),
+    }
+}
+
+// The node in a slot between the slots below and above: what the walk goes on with.
+fn visit(
+    limits: Limits,
+    table: &[u16],
+    store: &[u8],
+    slot: usize,
+    below: usize,
+    above: usize,
+) -> Node
+    requires { ⌜ VisitFits limits (now table) (now store) slot below above ⌝ }
+    ensures { λ r. ⌜ r ≡ visited limits (now (table .entry)) (now (store .entry)) slot below above ⌝ }
+{
+    if limits.slots < slot {
+        return Node::Wrong;
+    }
+    let row = words::read_row(table, slot);
+    if !crate::nodes::node_fine(limits, table, store, slot, row, below, above) {
+        return Node::Wrong;
+    }
+    Node::Fine {
+        smaller: row.left as usize,
+        larger: row.right as usize,
+        balance: row.balance,
+    }
+}
+
+// The subtree at a link, at most `left` nodes deep, between the nodes in the slots `below` and `above`, 0 for none.
+// It ends at the first node that is not as it must be.
+pub fn check_tree(
+    limits: Limits,
+    table: &[u16],
+    store: &[u8],
+    left: usize,
+    link: usize,
+    below: usize,
+    above: usize,
+) -> Subtree
+    requires { ⌜ WalkFits limits (now table) (now store) left below above ⌝ }
+    ensures { λ r. ⌜ r ≡ checkTree limits (now (table .entry)) (now (store .entry)) left link below above ⌝ }
+{
+    if link == 0 {
+        return Subtree::Sound {
+            height: 0,
+            count: 0,
+        };
+    }
+    if left == 0 {
+        return Subtree::Unsound;
+    }
+    let node = visit(limits, table, store, link, below, above);
+    let Node::Fine {
+        smaller,
+        larger,
+        balance,
+    } = node
+    else {
+        return Subtree::Unsound;
+    };
+    let low = check_tree(limits, table, store, left - 1, smaller, below, link);
+    let Subtree::Sound { height, count } = low else {
+        return Subtree::Unsound;
+    };
+    let high = check_tree(limits, table, store, left - 1, larger, link, above);
+    over_left(balance, height, count, high)
+}
+
+// Whether the free chain from a link is exactly `count` slots long, each of them as freed and none above the high mark.
+pub fn check_chain(
+    limits: Limits,
+    table: &[u16],
+    store: &[u8],
+    high: usize,
+    count: usize,
+    link: usize,
+) -> bool
+    requires { ⌜ ChainFits limits (now table) (now store) high ⌝ }
+    ensures { λ r. ⌜ r ≡ checkChain limits (now (table .entry)) (now (store .entry)) count link ⌝ }
+{
+    let mut left = count;
+    let mut slot = link;
+    while 0 < left {
+        if slot < 1 {
+            return false;
+        }
+        if high < slot {
+            return false;
+        }
+        let row = words::read_row(table, slot);
+        if !crate::nodes::freed_row(limits, store, slot, row) {
+            return false;
+        }
+        slot = row.left as usize;
+        left -= 1;
+    }
+    slot == 0
+}
+
+// Whether the slots above the high mark are zero.
+pub fn unused_slots(limits: Limits, table: &[u16], store: &[u8], high: usize) -> bool
+    requires { ⌜ SizesFit limits (now table) (now store) ⌝ }
+    ensures { λ r. ⌜ r ≡ unusedSlots limits (now (table .entry)) (now (store .entry)) high ⌝ }
+{
+    if limits.slots < high {
+        return false;
+    }
+    if !crate::zeros::words_zero(table, 4 + 8 * high) {
+        return false;
+    }
+    crate::zeros::bytes_zero(store, limits.width * high)
+}

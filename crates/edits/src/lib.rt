@@ -1,0 +1,1 @@
+// Insert and delete within any limits.

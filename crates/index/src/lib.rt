@@ -1,0 +1,55 @@
+// The hub's label index: every call takes the lent memory at any length and with any content, and refuses by the paper's
+// numbers. A refused call has changed nothing.
+use types::DoneAnswer;
+use types::ListAnswer;
+use types::SearchAnswer;
+ghost use mathlib.Core.Path.{_≡_};
+ghost use Rattle.types.specs.Sizes.{hub};
+ghost use Rattle.types.specs.Answers.{searchSays, doneSays, listSays};
+ghost use Rattle.tables.specs.Outcomes.{layoutOutcome, searchOutcome, checkOutcome, listingOutcome, viewOutcome};
+ghost use Rattle.views.specs.Given.{Gives};
+ghost use Rattle.views.specs.Parts.{Views};
+ghost use Rattle.lists.specs.Given.{Lists};
+
+// Lays out an empty table: every word and byte becomes 0. Refused by 1 and 2.
+pub fn layout(table: &mut [u16], store: &mut [u8]) -> DoneAnswer
+    ensures { λ r. ⌜ Gives (layoutOutcome hub (now (table .entry)) (now (store .entry))) (doneSays r) (now (table .exit)) (now (store .exit)) ⌝ }
+{
+    views::layouts::layout_within(types::hub(), table, store)
+}
+
+// Searches for a label by the search steps, with both counts. Refused by 1 to 5.
+pub fn search(table: &[u16], store: &[u8], label: &[u8]) -> SearchAnswer
+    ensures { λ r. ⌜ searchSays r ≡ searchOutcome hub (now (table .entry)) (now (store .entry)) (now (label .entry)) ⌝ }
+{
+    search::walks::search_within(types::hub(), table, store, label)
+}
+
+// Tests the whole table and store. Refused by 1, 2 and, where they are not sound, 6.
+pub fn check(table: &[u16], store: &[u8]) -> DoneAnswer
+    ensures { λ r. ⌜ doneSays r ≡ checkOutcome hub (now (table .entry)) (now (store .entry)) ⌝ }
+{
+    lists::check_within(types::hub(), table, store)
+}
+
+// Writes the slots in ascending label order into a lent list, and gives their number; later words stay.
+// Refused by 1, 2, 6 and 10.
+pub fn listing(table: &[u16], store: &[u8], list: &mut [u16]) -> ListAnswer
+    ensures { λ r. ⌜ Lists (listingOutcome hub (now (table .entry)) (now (store .entry)) (now (list .entry))) (listSays r) (now (list .exit)) ⌝ }
+{
+    lists::listing_within(types::hub(), table, store, list)
+}
+
+// Whether the view of a slot's label is refused: by 1, 2 or 11.
+pub fn view_check(table: &[u16], store: &[u8], slot: usize) -> DoneAnswer
+    ensures { λ r. ⌜ doneSays r ≡ viewOutcome hub (now (table .entry)) (now (store .entry)) slot ⌝ }
+{
+    views::view_check_within(types::hub(), table, store, slot)
+}
+
+// The part of the lent store that holds a slot's label; where `view_check` refuses, the empty part at the store's start.
+pub fn view<'a>(table: &[u16], store: &'a [u8], slot: usize) -> &'a [u8]
+    ensures { λ r. ⌜ Views hub (now (table .entry)) (store .entry) slot r ⌝ }
+{
+    views::view_within(types::hub(), table, store, slot)
+}
