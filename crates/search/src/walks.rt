@@ -22,7 +22,7 @@ fn son(row: Row, right: bool) -> u16
 }
 
 // Where the walk stands after a node's step.
-fn after(table: &[u16], spot: Spot, step: Step) -> Spot
+pub fn after(table: &[u16], spot: Spot, step: Step) -> Spot
     requires { ⌜ CanStep (now table) spot step ⌝ }
     ensures { λ r. ⌜ r ≡ spotAfter spot (rowAt (now (table .entry)) (spot .link)) step ⌝ }
     ensures { λ r. ⌜ Onward spot r ⌝ }

@@ -1,4 +1,5 @@
 -- The search steps at a node that stands in the rows of a table and the parts of a store.
+-- `row-not-bad`: the row of such a node breaks no walk.
 -- `steps-at-node`: the walk from its link is the walk by the step at its label, place and side, into its sons.
 use mathlib.Core.Bool.{Bool, true, false, cond}
 use mathlib.Core.List.{List}
@@ -28,7 +29,7 @@ side-within below above = go (leb above below)
     go false = omega arith
 
 -- the row of a node with a label of 1 to so many bytes is no bad one
-row-not-bad : (limits : Limits) (p : Neighbour) (l : Tree) (e : Entry) (r : Tree) (s : Neighbour)
+pub row-not-bad : (limits : Limits) (p : Neighbour) (l : Tree) (e : Entry) (r : Tree) (s : Neighbour)
     → 1 ≤ length (e .label) → length (e .label) ≤ limits .width → isBad limits (nodeRow p l e r s) ≡ false
 unfolding isBad
 row-not-bad limits p l e r s some short =

@@ -1,4 +1,5 @@
 -- The search steps on a table and a store that hold a tree go as the full comparison search on the tree goes.
+-- `steps-at-missing`: a walk at a missing link is over.
 -- `Agrees`: a walk ends with what a search finds and visits, and examines few places.
 -- `steps-agree`: so does the walk into each subtree.
 -- `Walked`, `search-agrees`: so do the search steps; the places are at most the label's length and the visits.
@@ -31,7 +32,7 @@ pub record Agrees (x : Label) (P S : ℕ) (walk : Walk) (search : Search) : Type
   pub few : places + max P S ≤ length (search .visited) + suc (length x)
 
 -- a walk at a missing link is over
-steps-at-missing : (limits : Limits) (table store : List ℕ) (x : Label) (left P S : ℕ)
+pub steps-at-missing : (limits : Limits) (table store : List ℕ) (x : Label) (left P S : ℕ)
     → steps limits table store x left 0 P S ≡ missing
 steps-at-missing limits table store x zero P S = refl
 steps-at-missing limits table store x (suc left) P S = refl

@@ -24,3 +24,10 @@ pub mod GoneParts
 pub mod TakenOut
 pub mod GoneRows
 pub mod DeleteWritten
+pub mod TraceSteps
+pub mod StepBounds
+pub mod PathBounds
+pub mod TraceBounds
+pub mod TraceNeeds
+pub mod Leads
+pub mod Ways

@@ -1,3 +1,4 @@
+pub mod Traces
 pub mod Slots
 pub mod Renewals
 pub mod Inserts

@@ -1,0 +1,137 @@
+-- `updates::tracing::trace_from` meets its contract. Each return is a step of the definition.
+-- The measure is the number of nodes left to visit.
+use Prim.Native.Nat.{ℕ, _-_, _<_}
+use native.Mathlib.Omega.{arith}
+use borrow.Author.Needs.{needs}
+use borrow.Fn.Kinds.{In}
+use borrow.Fn.PlainCycle.{Measures, is, falls, and}
+use Rattle.search.proofs.Rows.{unbroken, room-left, can-step}
+use Rattle.updates.proofs.TraceSteps.{trace-missing, trace-broken, trace-found, trace-right, trace-left}
+use Rattle.updates.proofs.PathBounds.{can-lengthen}
+use Rattle.updates.proofs.TraceNeeds.{can-end, slot-fits, can-go-on}
+use Rattle.updates.proofs.tracing.trace_from.Reads as own
+use Rattle.updates.proofs.tracing.trace_from.Kinds as kinds
+use Rattle.updates.proofs.tracing.+trace_from.Lts-trace_from as lts
+use Rattle.search.proofs.nodes.broken.Reads as broken-reads
+use Rattle.search.proofs.nodes.visit.Reads as visit-reads
+use Rattle.search.proofs.walks.after.Reads as after-reads
+use Rattle.updates.proofs.tracing.ended.Reads as ended-reads
+use Rattle.updates.proofs.tracing.found.Reads as found-reads
+use Rattle.updates.proofs.tracing.longer.Reads as longer-reads
+use Rattle.updates.proofs.tracing.+trace_from.{statement}
+use Rattle.updates.proofs.tracing.+trace_from.Tie.{close}
+
+abbrev μ : Measures 3 kinds.ps ℕ
+μ κs a = a .0 .depth - a .1 .1 .1 .1 .0 .visits
+
+abbrev entered : ℕ → In 3 kinds.ps
+entered t = and 3 kinds.ps (is 3 kinds.ps μ t) own.Pre
+
+abbrev deeper : ℕ → In 3 kinds.ps
+deeper t = and 3 kinds.ps (falls 3 kinds.ps _<_ μ t) own.Pre
+
+abbrev called : ℕ → lts.Claims
+called t = (
+  ended-reads.Asked,
+  ended-reads.Learnt,
+  broken-reads.Asked,
+  broken-reads.Learnt,
+  visit-reads.Asked,
+  visit-reads.Learnt,
+  found-reads.Asked,
+  found-reads.Learnt,
+  after-reads.Asked,
+  after-reads.Learnt,
+  deeper t,
+  own.Post,
+  longer-reads.Asked,
+  longer-reads.Learnt,
+)
+
+-- the function's entry, from the spot after a node's step
+abbrev entry : (t : ℕ) → lts.After-after (called t) (entered t) own.Post → lts.Start (called t) (entered t) own.Post
+entry t c = c .before .before .before .before .before .before .before .before .before .before .before
+
+-- the measure falls
+fewer : (t : ℕ) (c : lts.After-after (called t) (entered t) own.Post)
+    → entry t c .args .limits .depth - c .after .result .visits < t
+fewer t c =
+    let tested = c .before .before .before .before in
+    let room = room-left _ _ _ _ _ (tested .before .broken .ensures) (tested .if2 .left) in
+    let visits = c .after .ensures .1 .visits in
+    omega arith
+
+ended-requires : (t : ℕ) → lts.Need-ended-requires (called t) (entered t) own.Post
+ended-requires t c κs = search needs
+
+returns : (t : ℕ) → lts.Need-returns (called t) (entered t) own.Post
+returns t c = search trace-missing
+
+broken-requires : (t : ℕ) → lts.Need-broken-requires (called t) (entered t) own.Post
+broken-requires t c κs = search needs
+
+ended-requires-2 : (t : ℕ) → lts.Need-ended-requires-2 (called t) (entered t) own.Post
+ended-requires-2 t c κs = search needs
+
+returns-2 : (t : ℕ) → lts.Need-returns-2 (called t) (entered t) own.Post
+returns-2 t c = search trace-broken
+
+visit-requires : (t : ℕ) → lts.Need-visit-requires (called t) (entered t) own.Post
+visit-requires t c κs = record { sizes = search needs; some = search needs; unbroken = search unbroken }
+
+found-requires : (t : ℕ) → lts.Need-found-requires (called t) (entered t) own.Post
+found-requires t c κs = search (can-end, unbroken)
+
+returns-3 : (t : ℕ) → lts.Need-returns-3 (called t) (entered t) own.Post
+returns-3 t c = search trace-found
+
+cast-slot : (t : ℕ) → lts.Need-cast-slot (called t) (entered t) own.Post
+cast-slot t c = search (slot-fits, unbroken)
+
+after-requires : (t : ℕ) → lts.Need-after-requires (called t) (entered t) own.Post
+after-requires t c κs = search (can-step, unbroken)
+
+trace-from-requires : (t : ℕ) → lts.Need-trace-from-requires (called t) (entered t) own.Post
+trace-from-requires t c κs = (fewer t (c .before), search (can-go-on, unbroken))
+
+longer-requires : (t : ℕ) → lts.Need-longer-requires (called t) (entered t) own.Post
+longer-requires t c κs =
+    let gone = c .before .before in
+    let start = entry t gone in
+    can-lengthen _ _ _ _ _ _ _ _ _ _ (start .pre .1) (gone .after .ensures .1) (c .trace-from .ensures) (omega arith)
+
+returns-4 : (t : ℕ) → lts.Need-returns-4 (called t) (entered t) own.Post
+returns-4 t c = search trace-right
+
+trace-from-requires-2 : (t : ℕ) → lts.Need-trace-from-requires-2 (called t) (entered t) own.Post
+trace-from-requires-2 t c κs = (fewer t (c .before), search (can-go-on, unbroken))
+
+longer-requires-2 : (t : ℕ) → lts.Need-longer-requires-2 (called t) (entered t) own.Post
+longer-requires-2 t c κs =
+    let gone = c .before .before in
+    let start = entry t gone in
+    can-lengthen _ _ _ _ _ _ _ _ _ _ (start .pre .1) (gone .after .ensures .1) (c .trace-from2 .ensures) (omega arith)
+
+returns-5 : (t : ℕ) → lts.Need-returns-5 (called t) (entered t) own.Post
+returns-5 t c = search trace-left
+
+pub +trace-from-spec : {M : Type 1} → statement M
++trace-from-spec = close μ λ t. lts.spec (called t)
+    (entered t)
+    own.Post
+    (ended-requires t)
+    (returns t)
+    (broken-requires t)
+    (ended-requires-2 t)
+    (returns-2 t)
+    (visit-requires t)
+    (found-requires t)
+    (returns-3 t)
+    (cast-slot t)
+    (after-requires t)
+    (trace-from-requires t)
+    (longer-requires t)
+    (returns-4 t)
+    (trace-from-requires-2 t)
+    (longer-requires-2 t)
+    (returns-5 t)
