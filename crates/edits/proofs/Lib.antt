@@ -1,1 +1,3 @@
 pub mod Lands
+pub mod Fits
+pub mod Gives

@@ -31,3 +31,9 @@ pub mod TraceBounds
 pub mod TraceNeeds
 pub mod Leads
 pub mod Ways
+pub mod SlotLaws
+pub mod Bytes
+pub mod RowsFits
+pub mod RenewalLaws
+pub mod SpineLaws
+pub mod InsertLaws

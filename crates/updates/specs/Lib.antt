@@ -3,3 +3,4 @@ pub mod Slots
 pub mod Renewals
 pub mod Inserts
 pub mod Deletes
+pub mod Fits

@@ -1,4 +1,8 @@
 // Insert and delete: slots taken and freed, labels stored and cleared, prefix fields renewed, and the tree put in balance.
+pub mod deletes;
+pub mod inserts;
+pub mod renewals;
+pub mod slots;
 pub mod tracing;
 
 // The free chain's first slot, or none.

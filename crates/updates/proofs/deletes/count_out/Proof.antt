@@ -1,0 +1,50 @@
+-- `updates::deletes::count_out` meets its contract: none less than no label is none.
+use mathlib.Core.Path.{ap, _∙_}
+use borrow.Author.Needs.{needs}
+use Rattle.updates.proofs.deletes.count_out.Statement.{statement}
+use Rattle.updates.proofs.deletes.count_out.Tie as tie
+use Rattle.updates.proofs.deletes.count_out.Reads as reads
+use Rattle.updates.proofs.deletes.count_out.Lts as lts
+use Rattle.updates.proofs.slots.free_slot.Reads as free-slot-reads
+use Rattle.updates.proofs.slots.set_count.Reads as set-count-reads
+
+free-slot-requires : tie.Need-free-slot-requires
+free-slot-requires c κs = search needs
+
+set-count-requires : tie.Need-set-count-requires
+set-count-requires c κs = search needs
+
+sub-set-count : tie.Need-sub-set-count
+sub-set-count c = search needs
+
+set-count-requires-2 : tie.Need-set-count-requires-2
+set-count-requires-2 c κs = search needs
+
+same-length : tie.Need-same-length
+same-length c = search needs
+
+returns : tie.Need-returns
+returns c =
+    let counted = c .before .before in
+    let some = counted .before .before in
+    let freed = some .before .before .before in
+    simp (some .if1 .taken) (cc)
+
+same-length-2 : tie.Need-same-length-2
+same-length-2 c = search needs
+
+returns-2 : tie.Need-returns-2
+returns-2 c = cc
+
+pub count-out-spec : {M : Type 1} → statement M
+count-out-spec =
+    tie.close
+    (tie.spec
+    free-slot-requires
+    set-count-requires
+    sub-set-count
+    set-count-requires-2
+    same-length
+    returns
+    same-length-2
+    returns-2)

@@ -1,0 +1,24 @@
+-- `updates::deletes::take_out` meets its contract: the tree without the node, then its root.
+use Rattle.updates.proofs.InsertLaws.{rooted-after}
+use borrow.Author.Needs.{needs}
+use Rattle.updates.proofs.deletes.take_out.Statement.{statement}
+use Rattle.updates.proofs.deletes.take_out.Tie as tie
+use Rattle.updates.proofs.deletes.take_out.Reads as reads
+use Rattle.updates.proofs.deletes.take_out.Lts as lts
+use Rattle.turns.proofs.update.delete_along.Reads as delete-along-reads
+use Rattle.updates.proofs.inserts.rooted.Reads as rooted-reads
+
+delete-along-requires : tie.Need-delete-along-requires
+delete-along-requires c κs = search needs
+
+rooted-requires : tie.Need-rooted-requires
+rooted-requires c κs = search needs
+
+same-length : tie.Need-same-length
+same-length c = search needs
+
+returns : tie.Need-returns
+returns c = search rooted-after
+
+pub take-out-spec : {M : Type 1} → statement M
+take-out-spec = tie.close (tie.spec delete-along-requires rooted-requires same-length returns)

@@ -1,0 +1,44 @@
+-- `updates::inserts::count_in` meets its contract: the slot, then the count.
+use mathlib.Core.Path.{ap, _∙_}
+use Prim.Native.Nat.{_+_}
+use Rattle.updates.specs.Slots.{afterTaken, withCount}
+use borrow.Author.Needs.{needs}
+use Rattle.updates.proofs.inserts.count_in.Statement.{statement}
+use Rattle.updates.proofs.inserts.count_in.Tie as tie
+use Rattle.updates.proofs.inserts.count_in.Reads as reads
+use Rattle.updates.proofs.inserts.count_in.Lts as lts
+use Rattle.updates.proofs.slots.set_count.Reads as set-count-reads
+use Rattle.updates.proofs.slots.take_slot.Reads as take-slot-reads
+use Rattle.words.proofs.total.word.Reads as word-reads
+
+word-requires : tie.Need-word-requires
+word-requires c κs = search needs
+
+take-slot-requires : tie.Need-take-slot-requires
+take-slot-requires c κs = search needs
+
+add-set-count : tie.Need-add-set-count
+add-set-count c = search needs
+
+set-count-requires : tie.Need-set-count-requires
+set-count-requires c κs = search needs
+
+same-length : tie.Need-same-length
+same-length c = search needs
+
+returns : tie.Need-returns
+returns c =
+    let counted = c .before .before in
+    let taken = counted .before .before .before .before in
+    (taken .take-slot .ensures .0, (cc))
+
+pub count-in-spec : {M : Type 1} → statement M
+count-in-spec =
+    tie.close
+    (tie.spec
+    word-requires
+    take-slot-requires
+    add-set-count
+    set-count-requires
+    same-length
+    returns)

@@ -1,0 +1,35 @@
+-- `updates::inserts::hang_leaf` meets its contract: the slot, the leaf, then the root's place.
+use Rattle.updates.specs.Inserts.{withLeaf}
+use borrow.Author.Needs.{needs}
+use Rattle.updates.proofs.inserts.hang_leaf.Statement.{statement}
+use Rattle.updates.proofs.inserts.hang_leaf.Tie as tie
+use Rattle.updates.proofs.inserts.hang_leaf.Reads as reads
+use Rattle.updates.proofs.inserts.hang_leaf.Lts as lts
+use Rattle.updates.proofs.inserts.count_in.Reads as count-in-reads
+use Rattle.updates.proofs.inserts.put_leaf.Reads as put-leaf-reads
+use Rattle.updates.proofs.slots.set_root_place.Reads as set-root-place-reads
+
+count-in-requires : tie.Need-count-in-requires
+count-in-requires c κs = search needs
+
+put-leaf-requires : tie.Need-put-leaf-requires
+put-leaf-requires c κs = search needs
+
+set-root-place-requires : tie.Need-set-root-place-requires
+set-root-place-requires c κs = search needs
+
+same-length : tie.Need-same-length
+same-length c = search needs
+
+returns : tie.Need-returns
+unfolding withLeaf
+returns c =
+    let placed = c .before .before in
+    let hung = placed .before .before .before .before in
+    let slot = hung .before .before .before .before in
+    (slot .count-in .ensures .0, (cc))
+
+pub hang-leaf-spec : {M : Type 1} → statement M
+hang-leaf-spec =
+    tie.close
+    (tie.spec count-in-requires put-leaf-requires set-root-place-requires same-length returns)

@@ -1,0 +1,41 @@
+-- `updates::inserts::leaf_fields` meets its contract: each return is a case of the definition.
+use Rattle.updates.proofs.InsertLaws.{leaf-alone, leaf-over-lower, leaf-under-upper, leaf-between}
+use borrow.Author.Needs.{needs}
+use Rattle.updates.proofs.inserts.leaf_fields.Statement.{statement}
+use Rattle.updates.proofs.inserts.leaf_fields.Tie as tie
+use Rattle.updates.proofs.inserts.leaf_fields.Reads as reads
+use Rattle.updates.proofs.inserts.leaf_fields.Lts as lts
+use Rattle.updates.proofs.renewals.fields_by.Reads as fields-by-reads
+
+cast-fields-by : tie.Need-cast-fields-by
+cast-fields-by c = search needs
+
+cast-fields-by-2 : tie.Need-cast-fields-by-2
+cast-fields-by-2 c = search needs
+
+fields-by-requires : tie.Need-fields-by-requires
+fields-by-requires c κs = search needs
+
+returns : tie.Need-returns
+returns c = search leaf-alone
+
+returns-2 : tie.Need-returns-2
+returns-2 c = search leaf-over-lower
+
+returns-3 : tie.Need-returns-3
+returns-3 c = search leaf-under-upper
+
+returns-4 : tie.Need-returns-4
+returns-4 c = search leaf-between
+
+pub leaf-fields-spec : {M : Type 1} → statement M
+leaf-fields-spec =
+    tie.close
+    (tie.spec
+    cast-fields-by
+    cast-fields-by-2
+    fields-by-requires
+    returns
+    returns-2
+    returns-3
+    returns-4)

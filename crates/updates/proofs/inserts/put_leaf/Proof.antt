@@ -1,0 +1,27 @@
+-- `updates::inserts::put_leaf` meets its contract: the row is the leaf row.
+use borrow.Author.Needs.{needs}
+use Rattle.updates.proofs.inserts.put_leaf.Statement.{statement}
+use Rattle.updates.proofs.inserts.put_leaf.Tie as tie
+use Rattle.updates.proofs.inserts.put_leaf.Reads as reads
+use Rattle.updates.proofs.inserts.put_leaf.Lts as lts
+use Rattle.updates.proofs.inserts.leaf_fields.Reads as leaf-fields-reads
+use Rattle.words.proofs.total.put_row.Reads as put-row-reads
+
+leaf-fields-requires : tie.Need-leaf-fields-requires
+leaf-fields-requires c κs = search needs
+
+cast-t9 : tie.Need-cast-t9
+cast-t9 c = search needs
+
+put-row-requires : tie.Need-put-row-requires
+put-row-requires c κs = search needs
+
+same-length : tie.Need-same-length
+same-length c = search needs
+
+returns : tie.Need-returns
+returns c = cc
+
+pub put-leaf-spec : {M : Type 1} → statement M
+put-leaf-spec =
+    tie.close (tie.spec leaf-fields-requires cast-t9 put-row-requires same-length returns)

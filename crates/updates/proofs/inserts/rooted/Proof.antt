@@ -1,0 +1,23 @@
+-- `updates::inserts::rooted` meets its contract: the root link, then its place.
+use borrow.Author.Needs.{needs}
+use Rattle.updates.proofs.inserts.rooted.Statement.{statement}
+use Rattle.updates.proofs.inserts.rooted.Tie as tie
+use Rattle.updates.proofs.inserts.rooted.Reads as reads
+use Rattle.updates.proofs.inserts.rooted.Lts as lts
+use Rattle.updates.proofs.slots.set_root_place.Reads as set-root-place-reads
+use Rattle.words.proofs.total.set_word.Reads as set-word-reads
+
+set-word-requires : tie.Need-set-word-requires
+set-word-requires c κs = search needs
+
+set-root-place-requires : tie.Need-set-root-place-requires
+set-root-place-requires c κs = search needs
+
+same-length : tie.Need-same-length
+same-length c = search needs
+
+returns : tie.Need-returns
+returns c = cc
+
+pub rooted-spec : {M : Type 1} → statement M
+rooted-spec = tie.close (tie.spec set-word-requires set-root-place-requires same-length returns)

@@ -1,0 +1,20 @@
+-- `updates::renewals::difference_place` meets its contract.
+use Rattle.updates.proofs.RenewalLaws.{place-of-compared}
+use borrow.Author.Needs.{needs}
+use Rattle.updates.proofs.renewals.difference_place.Statement.{statement}
+use Rattle.updates.proofs.renewals.difference_place.Tie as tie
+use Rattle.updates.proofs.renewals.difference_place.Reads as reads
+use Rattle.updates.proofs.renewals.difference_place.Lts as lts
+use Rattle.compares.proofs.compare.Reads as compare-reads
+
+compare-requires : tie.Need-compare-requires
+compare-requires c κs = search needs
+
+cast-result : tie.Need-cast-result
+cast-result c = search needs
+
+returns : tie.Need-returns
+returns c = search place-of-compared
+
+pub difference-place-spec : {M : Type 1} → statement M
+difference-place-spec = tie.close (tie.spec compare-requires cast-result returns)

@@ -1,0 +1,48 @@
+-- `updates::renewals::renew` meets its contract: the row with its new fields, and label lengths stay.
+use Rattle.updates.proofs.RenewalLaws.{renewed-by-fields}
+use borrow.Author.Needs.{needs}
+use Rattle.updates.proofs.renewals.renew.Statement.{statement}
+use Rattle.updates.proofs.renewals.renew.Tie as tie
+use Rattle.updates.proofs.renewals.renew.Reads as reads
+use Rattle.updates.proofs.renewals.renew.Lts as lts
+use Rattle.turns.proofs.rows.prefixed.Reads as prefixed-reads
+use Rattle.updates.proofs.renewals.fields_between.Reads as fields-between-reads
+use Rattle.words.proofs.total.put_row.Reads as put-row-reads
+use Rattle.words.proofs.total.row_of.Reads as row-of-reads
+
+fields-between-requires : tie.Need-fields-between-requires
+fields-between-requires c κs = search needs
+
+row-of-requires : tie.Need-row-of-requires
+row-of-requires c κs = search needs
+
+prefixed-requires : tie.Need-prefixed-requires
+prefixed-requires c κs = search needs
+
+put-row-requires : tie.Need-put-row-requires
+put-row-requires c κs = search needs
+
+same-length : tie.Need-same-length
+same-length c = search needs
+
+returns : tie.Need-returns
+returns c =
+    let put = c .before .before in
+    let new = put .before in
+    let read = new .before .before in
+    let fields = read .before .before in
+    let at-entry = fields .before .before .before .before in
+    renewed-by-fields (at-entry .args .limits) (at-entry .args .table .now) (at-entry .args .store .now) (at-entry .args .k)
+    (at-entry .args .below) (at-entry .args .above) _ _ _ _ (fields .fields-between .ensures) (read .row-of .ensures)
+    (new .prefixed .ensures) (put .put-row .ensures) (at-entry .pre)
+
+pub renew-spec : {M : Type 1} → statement M
+renew-spec =
+    tie.close
+    (tie.spec
+    fields-between-requires
+    row-of-requires
+    prefixed-requires
+    put-row-requires
+    same-length
+    returns)

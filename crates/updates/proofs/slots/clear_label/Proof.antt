@@ -1,0 +1,70 @@
+-- `updates::slots::clear_label` meets its contract.
+-- The invariant: the zeros that are left, set, give the store with the whole part cleared. The measure: the bytes left.
+use native.Mathlib.Nat.{sub-zero}
+use borrow.Author.Needs.{needs}
+use native.Mathlib.Omega.{arith}
+use Prim.Native.Nat.{_+_, _-_, _≤_}
+use mathlib.Core.Path.{_≡_, sym, ap, _∙_}
+use lib.ListN.{length, replicate, length-set}
+use lib.Seq.{sets}
+use Rattle.updates.specs.Slots.{withoutLabel}
+use Rattle.updates.proofs.Bytes.{clear-next, clear-all}
+use native.Mathlib.Nat.{add-zero}
+use Rattle.updates.proofs.slots.clear_label.Statement.{statement}
+use Rattle.updates.proofs.slots.clear_label.Tie as tie
+use Rattle.updates.proofs.slots.clear_label.Reads as reads
+use Rattle.updates.proofs.slots.clear_label.Lts as lts
+use Rattle.updates.proofs.slots.part_start.Reads as part-start-reads
+use Rattle.updates.proofs.slots.set_byte.Reads as set-byte-reads
+
+abbrev Inv-loop : tie.InvT-loop
+Inv-loop limits store₀ slot start i₀ store i =
+    (length store ≡ length store₀) × (sets store (start + i) (replicate (limits .width - i) 0) ≡ sets store₀ start (replicate (limits .width) 0))
+
+abbrev μ-loop : tie.MeasureT-loop
+μ-loop limits store₀ slot start i₀ store i = limits .width - i
+
+part-start-requires : tie.Need-part-start-requires Inv-loop μ-loop
+part-start-requires c κs = search needs
+
+loop-holds : tie.Need-loop-holds Inv-loop μ-loop
+loop-holds c = (search needs, simp (add-zero, sub-zero))
+
+set-byte-requires : tie.Need-set-byte-requires Inv-loop μ-loop
+set-byte-requires c κs = search needs
+
+add-i : tie.Need-add-i Inv-loop μ-loop
+add-i c = search needs
+
+loop-less : tie.Need-loop-less Inv-loop μ-loop
+loop-less c = search needs
+
+loop-again : tie.Need-loop-again Inv-loop μ-loop
+loop-again c = (search needs, search clear-next)
+
+same-length : tie.Need-same-length Inv-loop μ-loop
+same-length c = search needs
+
+returns : tie.Need-returns Inv-loop μ-loop
+unfolding withoutLabel
+returns c =
+    let turns = c .before .before in
+    let started = turns .before in
+    let at-entry = started .before .before .args in
+    clear-all _ _ _ _ _ (turns .loop .inv .1) (c .if1 .left)
+    ∙ ap (λ s. sets (at-entry .store .now) s (replicate (at-entry .limits .width) 0)) (started .part-start .ensures .0)
+
+pub clear-label-spec : {M : Type 1} → statement M
+clear-label-spec =
+    tie.close
+    (tie.spec
+    Inv-loop
+    μ-loop
+    part-start-requires
+    loop-holds
+    set-byte-requires
+    add-i
+    loop-less
+    loop-again
+    same-length
+    returns)

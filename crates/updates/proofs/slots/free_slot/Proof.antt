@@ -1,0 +1,30 @@
+-- `updates::slots::free_slot` meets its contract: the row, then the first free link.
+use Rattle.updates.specs.Slots.{afterFreed}
+use borrow.Author.Needs.{needs}
+use Rattle.updates.proofs.slots.free_slot.Statement.{statement}
+use Rattle.updates.proofs.slots.free_slot.Tie as tie
+use Rattle.updates.proofs.slots.free_slot.Reads as reads
+use Rattle.updates.proofs.slots.free_slot.Lts as lts
+use Rattle.words.proofs.total.put_row.Reads as put-row-reads
+use Rattle.words.proofs.total.set_word.Reads as set-word-reads
+use Rattle.words.proofs.total.word.Reads as word-reads
+
+word-requires : tie.Need-word-requires
+word-requires c κs = search needs
+
+put-row-requires : tie.Need-put-row-requires
+put-row-requires c κs = search needs
+
+set-word-requires : tie.Need-set-word-requires
+set-word-requires c κs = search needs
+
+same-length : tie.Need-same-length
+same-length c = search needs
+
+returns : tie.Need-returns
+unfolding afterFreed
+returns c = cc
+
+pub free-slot-spec : {M : Type 1} → statement M
+free-slot-spec =
+    tie.close (tie.spec word-requires put-row-requires set-word-requires same-length returns)

@@ -1,0 +1,21 @@
+-- `updates::slots::set_count` meets its contract.
+use Rattle.updates.specs.Slots.{withCount}
+use borrow.Author.Needs.{needs}
+use Rattle.updates.proofs.slots.set_count.Statement.{statement}
+use Rattle.updates.proofs.slots.set_count.Tie as tie
+use Rattle.updates.proofs.slots.set_count.Reads as reads
+use Rattle.updates.proofs.slots.set_count.Lts as lts
+use Rattle.words.proofs.total.set_word.Reads as set-word-reads
+
+set-word-requires : tie.Need-set-word-requires
+set-word-requires c κs = search needs
+
+same-length : tie.Need-same-length
+same-length c = search needs
+
+returns : tie.Need-returns
+unfolding withCount
+returns c = search needs
+
+pub set-count-spec : {M : Type 1} → statement M
+set-count-spec = tie.close (tie.spec set-word-requires same-length returns)
