@@ -1,3 +1,4 @@
 pub mod Lands
 pub mod Fits
 pub mod Gives
+pub mod FirstTests

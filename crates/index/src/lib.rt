@@ -3,10 +3,12 @@
 use types::DoneAnswer;
 use types::ListAnswer;
 use types::SearchAnswer;
+use types::UpdateAnswer;
 ghost use mathlib.Core.Path.{_≡_};
 ghost use Rattle.types.specs.Sizes.{hub};
-ghost use Rattle.types.specs.Answers.{searchSays, doneSays, listSays};
-ghost use Rattle.tables.specs.Outcomes.{layoutOutcome, searchOutcome, checkOutcome, listingOutcome, viewOutcome};
+ghost use Rattle.types.specs.Answers.{searchSays, updateSays, doneSays, listSays};
+ghost use Rattle.tables.specs.Outcomes.{layoutOutcome, searchOutcome, insertOutcome, deleteOutcome};
+ghost use Rattle.tables.specs.Outcomes.{checkOutcome, listingOutcome, viewOutcome};
 ghost use Rattle.views.specs.Given.{Gives};
 ghost use Rattle.views.specs.Parts.{Views};
 ghost use Rattle.lists.specs.Given.{Lists};
@@ -23,6 +25,20 @@ pub fn search(table: &[u16], store: &[u8], label: &[u8]) -> SearchAnswer
     ensures { λ r. ⌜ searchSays r ≡ searchOutcome hub (now (table .entry)) (now (store .entry)) (now (label .entry)) ⌝ }
 {
     search::walks::search_within(types::hub(), table, store, label)
+}
+
+// Inserts a label with its value: the slot it took, and its search's counts. Refused by 1, 2, 3, 4, 6, then 7 before 9.
+pub fn insert(table: &mut [u16], store: &mut [u8], label: &[u8], value: u16) -> UpdateAnswer
+    ensures { λ r. ⌜ Gives (insertOutcome hub (now (table .entry)) (now (store .entry)) (now (label .entry)) value) (updateSays r) (now (table .exit)) (now (store .exit)) ⌝ }
+{
+    edits::insert_within(types::hub(), table, store, label, value)
+}
+
+// Deletes a label: the slot it freed, and its search's counts. Refused by 1, 2, 3, 4, 6 and 8.
+pub fn delete(table: &mut [u16], store: &mut [u8], label: &[u8]) -> UpdateAnswer
+    ensures { λ r. ⌜ Gives (deleteOutcome hub (now (table .entry)) (now (store .entry)) (now (label .entry))) (updateSays r) (now (table .exit)) (now (store .exit)) ⌝ }
+{
+    edits::delete_within(types::hub(), table, store, label)
 }
 
 // Tests the whole table and store. Refused by 1, 2 and, where they are not sound, 6.

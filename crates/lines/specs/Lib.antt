@@ -1,2 +1,5 @@
 pub mod Commands
 pub mod Texts
+pub mod Scans
+pub mod Puts
+pub mod Kept

@@ -8,11 +8,12 @@ use Rattle.types.specs.Answers.{Answer, found, absent, updated, listed, done, r
 -- a number below 10 to the power of the digits given, in decimal
 abbrev pub decimalWith : (digits : ℕ) → ℕ → List ℕ
 decimalWith zero n = []
-decimalWith (suc digits) n = elim (ltb n 10) [ true ↦ (48 + n) ∷ [] | false ↦ decimalWith digits (n / 10) ++ ((48 + n % 10) ∷ []) ]
+decimalWith (suc digits) n =
+    elim (ltb n 10) [ true ↦ (48 + n) ∷ [] | false ↦ decimalWith digits (n / 10) ++ ((48 + n % 10) ∷ []) ]
 
--- "numbers in decimal": none that is printed has more than five digits
-abbrev pub decimal : ℕ → List ℕ
-decimal n = decimalWith 5 n
+-- "numbers in decimal": a number of 64 bits has at most 20 digits
+unfoldable pub decimal : ℕ → List ℕ
+decimal n = decimalWith 20 n
 
 -- a space, and a number
 abbrev pub thenNumber : ℕ → List ℕ
@@ -36,12 +37,17 @@ badWord = 98 ∷ 97 ∷ 100 ∷ []
 abbrev pub lineEnd : List ℕ
 lineEnd = 10 ∷ []
 
--- "`ok slot visits places` for I and D, `found value visits places` or `absent visits places` for S, and for a refusal `no number`", "ended by byte 10".
+-- the two counts that end an answer's line
+abbrev pub thenCounts : (visits places : ℕ) → List ℕ
+thenCounts visits places = thenNumber visits ++ (thenNumber places ++ lineEnd)
+
+-- "`ok slot visits places` for I and D, `found value visits places` or `absent visits places` for S, and for a refusal
+-- `no number`", "ended by byte 10".
 -- (A listing and the calls that only say that they are done are no commands.)
 unfoldable pub textOf : Answer → List ℕ
-textOf (updated slot visits places) = okWord ++ (thenNumber slot ++ (thenNumber visits ++ (thenNumber places ++ lineEnd)))
-textOf (found slot value visits places) = foundWord ++ (thenNumber value ++ (thenNumber visits ++ (thenNumber places ++ lineEnd)))
-textOf (absent visits places) = absentWord ++ (thenNumber visits ++ (thenNumber places ++ lineEnd))
+textOf (updated slot visits places) = okWord ++ (thenNumber slot ++ thenCounts visits places)
+textOf (found slot value visits places) = foundWord ++ (thenNumber value ++ thenCounts visits places)
+textOf (absent visits places) = absentWord ++ thenCounts visits places
 textOf (refused number) = noWord ++ (thenNumber number ++ lineEnd)
 textOf (listed count) = okWord ++ lineEnd
 textOf done = okWord ++ lineEnd

@@ -1,0 +1,8 @@
+pub mod Ends
+pub mod Values
+pub mod Inserts
+pub mod Letters
+pub mod Asks
+pub mod Buffers
+pub mod Answers
+pub mod Keeps

@@ -1,0 +1,165 @@
+// The line that answers a line, written at the front of a lent buffer. What stands behind it stays free.
+use types::Refusal;
+use types::SearchAnswer;
+use types::UpdateAnswer;
+ghost use mathlib.Core.Path.{_≡_};
+ghost use mathlib.Core.List.{_++_};
+ghost use Prim.Native.Nat.{_≤_, _+_};
+ghost use lib.ListN.{length, take};
+ghost use Rattle.types.specs.Answers.{searchSays, updateSays, numberOf, refused};
+ghost use Rattle.lines.specs.Texts.{textOf, badText, thenNumber, thenCounts, decimalWith};
+ghost use Rattle.lines.specs.Puts.{Puts};
+
+// The line for a search's answer; gives its length.
+pub fn search_text(answer: SearchAnswer, out: &mut [u8; 96]) -> usize
+    ensures { λ r. ⌜ take r (now (out .exit)) ≡ textOf (searchSays answer) ⌝ }
+    ensures { λ r. ⌜ r ≤ length (now (out .exit)) ⌝ }
+{
+    put_search(answer, out)
+}
+
+// The line for the answer of an insert or a delete; gives its length.
+pub fn update_text(answer: UpdateAnswer, out: &mut [u8; 96]) -> usize
+    ensures { λ r. ⌜ take r (now (out .exit)) ≡ textOf (updateSays answer) ⌝ }
+    ensures { λ r. ⌜ r ≤ length (now (out .exit)) ⌝ }
+{
+    put_update(answer, out)
+}
+
+// The line for a line that asks nothing; gives its length.
+pub fn bad_text(out: &mut [u8; 96]) -> usize
+    ensures { λ r. ⌜ take r (now (out .exit)) ≡ badText ⌝ }
+    ensures { λ r. ⌜ r ≤ length (now (out .exit)) ⌝ }
+{
+    put(out, 0, b"bad\n")
+}
+
+// The line for a search's answer, put at the front; gives the place after it.
+fn put_search(answer: SearchAnswer, out: &mut [u8]) -> usize
+    requires { ⌜ 96 ≤ length (now out) ⌝ }
+    ensures { λ r. ⌜ Puts (now (out .entry)) 0 (textOf (searchSays answer)) 96 (now (out .exit)) r ⌝ }
+{
+    match answer {
+        SearchAnswer::Found {
+            slot: _,
+            value,
+            visits,
+            places,
+        } => {
+            let end = put(out, 0, b"found");
+            put_answer(out, end, value as usize, visits, places)
+        }
+        SearchAnswer::Absent { visits, places } => {
+            let end = put(out, 0, b"absent");
+            put_counts(out, end, visits, places)
+        }
+        SearchAnswer::Refused(refusal) => put_refusal(refusal, out),
+    }
+}
+
+// The line for the answer of an insert or a delete, put at the front; gives the place after it.
+fn put_update(answer: UpdateAnswer, out: &mut [u8]) -> usize
+    requires { ⌜ 96 ≤ length (now out) ⌝ }
+    ensures { λ r. ⌜ Puts (now (out .entry)) 0 (textOf (updateSays answer)) 96 (now (out .exit)) r ⌝ }
+{
+    match answer {
+        UpdateAnswer::Updated {
+            slot,
+            visits,
+            places,
+        } => {
+            let end = put(out, 0, b"ok");
+            put_answer(out, end, slot, visits, places)
+        }
+        UpdateAnswer::Refused(refusal) => put_refusal(refusal, out),
+    }
+}
+
+// The line for a refusal, put at the front; gives the place after it.
+fn put_refusal(refusal: Refusal, out: &mut [u8]) -> usize
+    requires { ⌜ 96 ≤ length (now out) ⌝ }
+    ensures { λ r. ⌜ Puts (now (out .entry)) 0 (textOf (refused (numberOf refusal))) 96 (now (out .exit)) r ⌝ }
+{
+    let first = put(out, 0, b"no");
+    let second = put_number(out, first, number_of(refusal));
+    put(out, second, b"\n")
+}
+
+// The number of a refusal.
+fn number_of(refusal: Refusal) -> usize
+    ensures { λ r. ⌜ r ≡ numberOf refusal ⌝ }
+{
+    match refusal {
+        Refusal::WrongTable => 1,
+        Refusal::WrongStore => 2,
+        Refusal::EmptyLabel => 3,
+        Refusal::LongLabel => 4,
+        Refusal::BrokenWalk => 5,
+        Refusal::NotSound => 6,
+        Refusal::AlreadyHeld => 7,
+        Refusal::NotHeld => 8,
+        Refusal::Full => 9,
+        Refusal::ShortList => 10,
+        Refusal::WrongSlot => 11,
+    }
+}
+
+// A number, both counts of a search and the line's end, put at a place; gives the place after them.
+fn put_answer(out: &mut [u8], place: usize, number: usize, visits: usize, places: usize) -> usize
+    requires { ⌜ place + 64 ≤ length (now out) ⌝ }
+    ensures { λ r. ⌜
+        Puts (now (out .entry)) place (thenNumber number ++ thenCounts visits places) 64 (now (out .exit)) r ⌝ }
+{
+    let end = put_number(out, place, number);
+    put_counts(out, end, visits, places)
+}
+
+// Both counts of a search and the line's end, put at a place; gives the place after them.
+fn put_counts(out: &mut [u8], place: usize, visits: usize, places: usize) -> usize
+    requires { ⌜ place + 43 ≤ length (now out) ⌝ }
+    ensures { λ r. ⌜ Puts (now (out .entry)) place (thenCounts visits places) 43 (now (out .exit)) r ⌝ }
+{
+    let first = put_number(out, place, visits);
+    let second = put_number(out, first, places);
+    put(out, second, b"\n")
+}
+
+// A space and a number, put at a place; gives the place after them.
+fn put_number(out: &mut [u8], place: usize, number: usize) -> usize
+    requires { ⌜ place + 21 ≤ length (now out) ⌝ }
+    ensures { λ r. ⌜ Puts (now (out .entry)) place (thenNumber number) 21 (now (out .exit)) r ⌝ }
+{
+    let end = put(out, place, b" ");
+    put_digits(out, end, 20, number)
+}
+
+// The digits of a number, at most so many, put at a place; gives the place after them.
+fn put_digits(out: &mut [u8], place: usize, digits: usize, number: usize) -> usize
+    requires { ⌜ place + digits ≤ length (now out) ⌝ }
+    ensures { λ r. ⌜ Puts (now (out .entry)) place (decimalWith digits number) digits (now (out .exit)) r ⌝ }
+{
+    if digits == 0 {
+        return place;
+    }
+    if number < 10 {
+        out[place] = 48 + number as u8;
+        return place + 1;
+    }
+    let end = put_digits(out, place, digits - 1, number / 10);
+    out[end] = 48 + (number % 10) as u8;
+    end + 1
+}
+
+// A text put at a place; gives the place after it.
+fn put(out: &mut [u8], place: usize, text: &[u8]) -> usize
+    requires { ⌜ place + length (now text) ≤ length (now out) ⌝ }
+    ensures { λ r. ⌜
+        Puts (now (out .entry)) place (now (text .entry)) (length (now (text .entry))) (now (out .exit)) r ⌝ }
+{
+    let mut i = 0;
+    while i < text.len() {
+        out[place + i] = text[i];
+        i += 1;
+    }
+    place + i
+}
