@@ -1,4 +1,5 @@
--- The soundness test, as the code makes it: one walk over the tree with each node's neighbour window, one along the free chain, one over the unused rest.
+-- The soundness test, as the code makes it: one walk over the tree with each node's neighbour window, one along the
+-- free chain, one over the unused rest.
 use mathlib.Core.List.{List}
 use mathlib.Core.Bool.{Bool, true, false, _&&_, cond}
 use Prim.Native.Nat.{ℕ, zero, suc, _+_, _-_, max}

@@ -1,5 +1,6 @@
 -- The tests before an update.
--- `early-sound`, `early-unsound`: what the whole table's test decides. `refused-insert`, `refused-delete`: a refused call.
+-- `early-sound`, `early-unsound`: what the whole table's test decides. `refused-insert`, `refused-delete`: a refused
+-- call.
 -- `ready`: past the tests the memory is sound and the label fits.
 use mathlib.Core.List.{List}
 use mathlib.Core.Bool.{Bool, true, false, not}

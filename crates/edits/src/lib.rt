@@ -19,7 +19,9 @@ pub enum Early {
 // The first refusal of an update, in the order of the table: lent memory, label, whole table.
 fn first_refusal(limits: Limits, table: &[u16], store: &[u8], label: &[u8]) -> Early
     requires { ⌜ LimitsFit limits ⌝ }
-    ensures { λ r. ⌜ verdictSays r ≡ updateVerdict limits (now (table .entry)) (now (store .entry)) (now (label .entry)) ⌝ }
+    ensures { λ r. ⌜
+        verdictSays r
+        ≡ updateVerdict limits (now (table .entry)) (now (store .entry)) (now (label .entry)) ⌝ }
 {
     let table_len = 4 + 8 * limits.slots;
     let store_len = limits.slots * limits.width;
@@ -51,7 +53,9 @@ fn insert_ready(
     value: u16,
 ) -> UpdateAnswer
     requires { ⌜ Ready limits (now table) (now store) (now label) ⌝ }
-    ensures { λ r. ⌜ Gives (insertOutcome limits (now (table .entry)) (now (store .entry)) (now (label .entry)) value) (updateSays r) (now (table .exit)) (now (store .exit)) ⌝ }
+    ensures { λ r. ⌜
+        Gives (insertOutcome limits (now (table .entry)) (now (store .entry)) (now (label .entry)) value)
+        (updateSays r) (now (table .exit)) (now (store .exit)) ⌝ }
 {
     let trace = updates::tracing::trace(limits, table, store, label);
     if trace.found != 0 {
@@ -72,7 +76,9 @@ fn insert_ready(
 // Deletes from a sound table: refused by 8 where the label is not held.
 fn delete_ready(limits: Limits, table: &mut [u16], store: &mut [u8], label: &[u8]) -> UpdateAnswer
     requires { ⌜ Ready limits (now table) (now store) (now label) ⌝ }
-    ensures { λ r. ⌜ Gives (deleteOutcome limits (now (table .entry)) (now (store .entry)) (now (label .entry))) (updateSays r) (now (table .exit)) (now (store .exit)) ⌝ }
+    ensures { λ r. ⌜
+        Gives (deleteOutcome limits (now (table .entry)) (now (store .entry)) (now (label .entry)))
+        (updateSays r) (now (table .exit)) (now (store .exit)) ⌝ }
 {
     let trace = updates::tracing::trace(limits, table, store, label);
     if trace.found == 0 {
@@ -95,7 +101,9 @@ pub fn insert_within(
     value: u16,
 ) -> UpdateAnswer
     requires { ⌜ EditsFit limits ⌝ }
-    ensures { λ r. ⌜ Gives (insertOutcome limits (now (table .entry)) (now (store .entry)) (now (label .entry)) value) (updateSays r) (now (table .exit)) (now (store .exit)) ⌝ }
+    ensures { λ r. ⌜
+        Gives (insertOutcome limits (now (table .entry)) (now (store .entry)) (now (label .entry)) value)
+        (updateSays r) (now (table .exit)) (now (store .exit)) ⌝ }
 {
     let early = first_refusal(limits, table, store, label);
     match early {
@@ -112,7 +120,9 @@ pub fn delete_within(
     label: &[u8],
 ) -> UpdateAnswer
     requires { ⌜ EditsFit limits ⌝ }
-    ensures { λ r. ⌜ Gives (deleteOutcome limits (now (table .entry)) (now (store .entry)) (now (label .entry))) (updateSays r) (now (table .exit)) (now (store .exit)) ⌝ }
+    ensures { λ r. ⌜
+        Gives (deleteOutcome limits (now (table .entry)) (now (store .entry)) (now (label .entry)))
+        (updateSays r) (now (table .exit)) (now (store .exit)) ⌝ }
 {
     let early = first_refusal(limits, table, store, label);
     match early {

@@ -1,4 +1,5 @@
-// The hub's label index: every call takes the lent memory at any length and with any content, and refuses by the paper's
+// The hub's label index: every call takes the lent memory at any length and with any content, and refuses by the
+// paper's
 // numbers. A refused call has changed nothing.
 use types::DoneAnswer;
 use types::ListAnswer;
@@ -15,7 +16,9 @@ ghost use Rattle.lists.specs.Given.{Lists};
 
 // Lays out an empty table: every word and byte becomes 0. Refused by 1 and 2.
 pub fn layout(table: &mut [u16], store: &mut [u8]) -> DoneAnswer
-    ensures { λ r. ⌜ Gives (layoutOutcome hub (now (table .entry)) (now (store .entry))) (doneSays r) (now (table .exit)) (now (store .exit)) ⌝ }
+    ensures { λ r. ⌜
+        Gives (layoutOutcome hub (now (table .entry)) (now (store .entry)))
+        (doneSays r) (now (table .exit)) (now (store .exit)) ⌝ }
 {
     views::layouts::layout_within(types::hub(), table, store)
 }
@@ -29,14 +32,18 @@ pub fn search(table: &[u16], store: &[u8], label: &[u8]) -> SearchAnswer
 
 // Inserts a label with its value: the slot it took, and its search's counts. Refused by 1, 2, 3, 4, 6, then 7 before 9.
 pub fn insert(table: &mut [u16], store: &mut [u8], label: &[u8], value: u16) -> UpdateAnswer
-    ensures { λ r. ⌜ Gives (insertOutcome hub (now (table .entry)) (now (store .entry)) (now (label .entry)) value) (updateSays r) (now (table .exit)) (now (store .exit)) ⌝ }
+    ensures { λ r. ⌜
+        Gives (insertOutcome hub (now (table .entry)) (now (store .entry)) (now (label .entry)) value)
+        (updateSays r) (now (table .exit)) (now (store .exit)) ⌝ }
 {
     edits::insert_within(types::hub(), table, store, label, value)
 }
 
 // Deletes a label: the slot it freed, and its search's counts. Refused by 1, 2, 3, 4, 6 and 8.
 pub fn delete(table: &mut [u16], store: &mut [u8], label: &[u8]) -> UpdateAnswer
-    ensures { λ r. ⌜ Gives (deleteOutcome hub (now (table .entry)) (now (store .entry)) (now (label .entry))) (updateSays r) (now (table .exit)) (now (store .exit)) ⌝ }
+    ensures { λ r. ⌜
+        Gives (deleteOutcome hub (now (table .entry)) (now (store .entry)) (now (label .entry)))
+        (updateSays r) (now (table .exit)) (now (store .exit)) ⌝ }
 {
     edits::delete_within(types::hub(), table, store, label)
 }
@@ -51,7 +58,9 @@ pub fn check(table: &[u16], store: &[u8]) -> DoneAnswer
 // Writes the slots in ascending label order into a lent list, and gives their number; later words stay.
 // Refused by 1, 2, 6 and 10.
 pub fn listing(table: &[u16], store: &[u8], list: &mut [u16]) -> ListAnswer
-    ensures { λ r. ⌜ Lists (listingOutcome hub (now (table .entry)) (now (store .entry)) (now (list .entry))) (listSays r) (now (list .exit)) ⌝ }
+    ensures { λ r. ⌜
+        Lists (listingOutcome hub (now (table .entry)) (now (store .entry)) (now (list .entry)))
+        (listSays r) (now (list .exit)) ⌝ }
 {
     lists::listing_within(types::hub(), table, store, list)
 }
@@ -63,7 +72,8 @@ pub fn view_check(table: &[u16], store: &[u8], slot: usize) -> DoneAnswer
     views::view_check_within(types::hub(), table, store, slot)
 }
 
-// The part of the lent store that holds a slot's label; where `view_check` refuses, the empty part at the store's start.
+// The part of the lent store that holds a slot's label; where `view_check` refuses, the empty part at the store's
+// start.
 pub fn view<'a>(table: &[u16], store: &'a [u8], slot: usize) -> &'a [u8]
     ensures { λ r. ⌜ Views hub (now (table .entry)) (store .entry) slot r ⌝ }
 {

@@ -12,14 +12,16 @@ Label = List ℕ
 unfoldable pub numberOf : ℕ → ℕ
 numberOf byte = byte + 1
 
--- "Places are counted from 1. Place i of a label of length n holds its byte plus 1 when i is at most n, and 0 (the end) at place n + 1."
+-- "Places are counted from 1. Place i of a label of length n holds its byte plus 1 when i is at most n, and 0 (the end)
+-- at place n + 1."
 abbrev pub numberAt : Label → ℕ → ℕ
 numberAt x zero = 0
 numberAt [] (suc i) = 0
 numberAt (byte ∷ x) (suc zero) = numberOf byte
 numberAt (byte ∷ x) (suc (suc i)) = numberAt x (suc i)
 
--- "The difference place of two unlike labels is the first place where they hold different numbers; the smaller number there is the smaller label."
+-- "The difference place of two unlike labels is the first place where they hold different numbers; the smaller number
+-- there is the smaller label."
 pub record SmallerAt (x y : Label) (i : ℕ) : Type 0 where
   pub place : 1 ≤ i
   pub before : (j : ℕ) → 1 ≤ j → j < i → numberAt x j ≡ numberAt y j
@@ -30,7 +32,8 @@ pub record Alike (x y : Label) : Type 0 where
   pub numbers : (j : ℕ) → numberAt x j ≡ numberAt y j
   pub lengths : length x ≡ length y
 
--- what a comparison of two labels finds: the first smaller or larger, at the difference place, or both alike, at the place of their shared end
+-- what a comparison of two labels finds: the first smaller or larger, at the difference place, or both alike, at the
+-- place of their shared end
 pub data Comparison : Type 0 where
   smaller : ℕ → Comparison
   same : ℕ → Comparison
@@ -72,6 +75,7 @@ pub data Finds (x y : Label) : Comparison → Type 0 where
   is-same : {i : ℕ} → Alike x y → i ≡ suc (length x) → Finds x y (same i)
   is-larger : {i : ℕ} → SmallerAt y x i → Finds x y (larger i)
 
--- The claim: a comparison finds the difference place and the order as the two sentences have them, or that the labels are alike.
+-- The claim: a comparison finds the difference place and the order as the two sentences have them, or that the labels
+-- are alike.
 abbrev pub ComparesByPlaces : Type 0
 ComparesByPlaces = (x y : Label) → Finds x y (compareLabels x y)

@@ -11,9 +11,9 @@ use Prim.Native.Nat.{ℕ, zero, suc, _≤_}
 use native.Mathlib.Omega.{arith}
 use lib.ListN.{length}
 use borrow.Author.Tests.{le-ltb}
+use Rattle.labels.proofs.Numbers.{Ltb, lt-yes, lt-no, ltb-view}
 use Rattle.types.specs.declared.Limits.{Limits}
 use Rattle.trees.specs.Trees.{Tree, empty, node}
-use Rattle.trees.proofs.Views.{Ltb, is-below, not-below, ltb-view}
 use Rattle.tables.specs.Words.{rowAt, entryAt}
 use Rattle.tables.specs.Written.{linkOf, firstOf}
 use Rattle.tables.specs.Sound.{Reading, unreadable, reads, readNode, readTree}
@@ -49,10 +49,10 @@ module _ (limits : Limits) (table store : List ℕ) where
       → TreeRead limits table store (rowAt table (suc k) .right) y
       → TreeRead limits table store (suc k)
       (elim b [ true ↦ unreadable | false ↦ readNode x (entryAt limits table store (suc k)) y ])
-  node-read k (is-below beyond) x y = no-tree
-  node-read k (not-below within) no-tree y = no-tree
-  node-read k (not-below within) (a-tree l) no-tree = no-tree
-  node-read k (not-below within) (a-tree l) (a-tree r) = a-tree (stands-node {k = suc k} (omega arith) within l r)
+  node-read k (lt-yes beyond) x y = no-tree
+  node-read k (lt-no within) no-tree y = no-tree
+  node-read k (lt-no within) (a-tree l) no-tree = no-tree
+  node-read k (lt-no within) (a-tree l) (a-tree r) = a-tree (stands-node {k = suc k} (omega arith) within l r)
 
   -- The tree read at a link stands there.
   pub tree-read : (left link : ℕ) → TreeRead limits table store link (readTree limits table store left link)
@@ -67,9 +67,9 @@ module _ (limits : Limits) (table : List ℕ) where
   slot-read : (k : ℕ) {b : Bool} {x : Chain} → Ltb (limits .slots) (suc k) b
       → ChainRead limits table (rowAt table (suc k) .left) x
       → ChainRead limits table (suc k) (elim b [ true ↦ endless | false ↦ linkedTo (suc k) x ])
-  slot-read k (is-below beyond) x = no-chain
-  slot-read k (not-below within) no-chain = no-chain
-  slot-read k (not-below within) (a-chain more) = a-chain (follows-slot {k = suc k} (omega arith) within more)
+  slot-read k (lt-yes beyond) x = no-chain
+  slot-read k (lt-no within) no-chain = no-chain
+  slot-read k (lt-no within) (a-chain more) = a-chain (follows-slot {k = suc k} (omega arith) within more)
 
   -- The chain read at a link goes on from there.
   pub chain-read : (left link : ℕ) → ChainRead limits table link (readChain limits table left link)

@@ -1,4 +1,5 @@
--- The claims: sound tables are the written-out trees; demand 2, the ordered map; demand 3, the cost rule over a whole list of calls.
+-- The claims: sound tables are the written-out trees; demand 2, the ordered map; demand 3, the cost rule over a whole
+-- list of calls.
 use mathlib.Core.List.{List, [], _∷_, map}
 use mathlib.Core.Logic.{_↔_}
 use mathlib.Core.Option.{Option, none, some}
@@ -21,7 +22,8 @@ use Rattle.tables.specs.Words.{slotStart, rowAt, partStart, labelAt}
 use Rattle.tables.specs.Written.{Memory, written}
 use Rattle.tables.specs.Steps.{Walk, ended, searchSteps}
 use Rattle.tables.specs.Sound.{sound, stateOf}
-use Rattle.tables.specs.Outcomes.{Outcome, searchOutcome, updateOutcome, layoutOutcome, listingOutcome, replyAnswer, visitsOf, placesOf}
+use Rattle.tables.specs.Outcomes.{Outcome, searchOutcome, updateOutcome, layoutOutcome, listingOutcome}
+use Rattle.tables.specs.Outcomes.{replyAnswer, placesOf}
 
 -- ---- sizes
 
@@ -115,7 +117,8 @@ pub record UpdatesMap (limits : Limits) (m : Memory) (x : Label) (value : ℕ) :
       (record { label = x; value = value }) (mapIn limits m)
   pub insert-sound : Sound limits (updateOutcome limits (plain.insert x value) (m .table) (m .store) .memory)
   pub delete-says :
-      deleteSaid (lookup x (mapIn limits m)) (said (updateOutcome limits (plain.delete x) (m .table) (m .store) .answer))
+      deleteSaid (lookup x (mapIn limits m))
+      (said (updateOutcome limits (plain.delete x) (m .table) (m .store) .answer))
   pub delete-leaves :
       mapIn limits (updateOutcome limits (plain.delete x) (m .table) (m .store) .memory) ≡ removal x (mapIn limits m)
   pub delete-sound : Sound limits (updateOutcome limits (plain.delete x) (m .table) (m .store) .memory)
@@ -134,9 +137,11 @@ pub record ListsAscending (limits : Limits) (m : Memory) (list : List ℕ) : Typ
 -- The claim of demand 2, for every sound table and every label.
 pub record OrderedMap (limits : Limits) : Type 0 where
   pub searches : (m : Memory) → Sound limits m → (x : Label) → LabelFits limits x → SearchLooksUp limits m x
-  pub updates : (m : Memory) → Sound limits m → (x : Label) → LabelFits limits x → (value : ℕ) → UpdatesMap limits m x value
+  pub updates :
+      (m : Memory) → Sound limits m → (x : Label) → LabelFits limits x → (value : ℕ) → UpdatesMap limits m x value
   pub lists :
-      (m : Memory) → Sound limits m → (list : List ℕ) → length (mapIn limits m) ≤ length list → ListsAscending limits m list
+      (m : Memory) → Sound limits m → (list : List ℕ) → length (mapIn limits m) ≤ length list
+      → ListsAscending limits m list
 
 -- ---- demand 3: "one claim about the whole list of calls, not a claim for each call"
 
@@ -161,10 +166,12 @@ callOutcome limits (plain.delete x) m = updateOutcome limits (plain.delete x) (m
 -- one call of the list, beside the plain tree's step
 pub record CallAgrees (limits : Limits) (c : Call) (m : Memory) (s : State) : Type 0 where
   pub search : LabelFits limits (soughtBy c) → SearchAgrees limits (soughtBy c) m (s .tree)
-  -- refused when the plain tree refuses, by the same number; slots and values are the plain tree's; the counts are those of the steps
+  -- refused when the plain tree refuses, by the same number; slots and values are the plain tree's; the counts are
+  -- those of the steps
   pub answer :
       callOutcome limits c m .answer
-      ≡ replyAnswer (plainStep (limits .slots) (limits .width) c s .reply) (searchSteps limits (m .table) (m .store) (soughtBy c))
+      ≡ replyAnswer (plainStep (limits .slots) (limits .width) c s .reply)
+      (searchSteps limits (m .table) (m .store) (soughtBy c))
   -- "The words and bytes after each call are the plain tree and its freed slots, written out"
   pub memory : callOutcome limits c m .memory ≡ written limits (plainStep (limits .slots) (limits .width) c s .state)
 

@@ -1,4 +1,5 @@
--- What each public call answers and leaves, on lent memory of any length and content ('Updates' and 'Where each call turns away' of document 01).
+-- What each public call answers and leaves, on lent memory of any length and content ('Updates' and 'Where each call
+-- turns away' of document 01).
 use mathlib.Core.List.{List, [], _∷_, _++_}
 use mathlib.Core.Bool.{Bool, true, false, not, _||_}
 use Prim.Native.Nat.{ℕ, _+_}
@@ -40,7 +41,9 @@ ofLabel limits x below = line (eqb (length x) 0) 3 (line (ltb (limits .width) (l
 -- "slot given: 11, 0, above 512, or its length word is 0 or above 64"
 abbrev pub ofSlot : Limits → (table : List ℕ) → ℕ → Verdict → Verdict
 ofSlot limits table k below =
-    line (eqb k 0 || (ltb (limits .slots) k || (eqb (rowAt table k .len) 0 || ltb (limits .width) (rowAt table k .len)))) 11 below
+    line
+    (eqb k 0 || (ltb (limits .slots) k || (eqb (rowAt table k .len) 0 || ltb (limits .width) (rowAt table k .len)))) 11
+    below
 
 -- "whole table: 6, not sound"
 abbrev pub ofTable : Limits → (table store : List ℕ) → Verdict → Verdict
@@ -83,7 +86,8 @@ abbrev pub partBy : Verdict → List ℕ → List ℕ
 partBy pass part = part
 partBy (refuse number) part = []
 
--- "The label view returns the part of the lent store that holds the slot's label"; "Where the view's first call refuses, its second returns the empty part"
+-- "The label view returns the part of the lent store that holds the slot's label"; "Where the view's first call
+-- refuses, its second returns the empty part"
 unfoldable pub viewPart : Limits → (table store : List ℕ) → ℕ → List ℕ
 viewPart limits table store k =
     partBy (viewVerdict limits table store k) (labelAt limits store k (rowAt table k .len))
@@ -119,7 +123,10 @@ outcomeBy (refuse number) m o = record { answer = refused number; memory = m }
 unfoldable pub layoutOutcome : Limits → (table store : List ℕ) → Outcome
 layoutOutcome limits table store =
     outcomeBy (ofMemory limits table store pass) (record { table = table; store = store })
-    (record { answer = done; memory = record { table = replicate (length table) 0; store = replicate (length store) 0 } })
+    (record {
+      answer = done;
+      memory = record { table = replicate (length table) 0; store = replicate (length store) 0 };
+    })
 
 abbrev pub visitsOf : Walk → ℕ
 visitsOf broken = 0
@@ -136,7 +143,8 @@ replyAnswer plain.not-held w = absent (visitsOf w) (placesOf w)
 replyAnswer (plain.updated slot) w = updated slot (visitsOf w) (placesOf w)
 replyAnswer (plain.refused number) w = refused number
 
--- what the plain tree's step leaves, written out; "map: 7, label held already; 8, label not held; 9, 512 labels held": all lent memory stays
+-- what the plain tree's step leaves, written out; "map: 7, label held already; 8, label not held; 9, 512 labels held":
+-- all lent memory stays
 abbrev pub memoryAfter : Limits → Memory → Reply → plain.State → Memory
 memoryAfter limits m (plain.found-at slot value) s = m
 memoryAfter limits m plain.not-held s = m

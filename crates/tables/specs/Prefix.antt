@@ -5,7 +5,8 @@ use lib.Dec.{leb}
 use Rattle.labels.specs.Labels.{Label}
 use Rattle.labels.specs.Neighbours.{Neighbour, held, difference}
 
--- "The node's place is the larger of the two." "The root has neither neighbour; its place is set to 1": a difference place is at least 1, so the 1 shows at the root alone.
+-- "The node's place is the larger of the two." "The root has neither neighbour; its place is set to 1": a difference
+-- place is at least 1, so the 1 shows at the root alone.
 -- below and above: the difference places with predecessor and successor
 abbrev pub placeBy : (below above : ℕ) → ℕ
 placeBy below above = max 1 (max below above)

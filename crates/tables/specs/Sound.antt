@@ -12,7 +12,7 @@ use Rattle.trees.specs.Trees.{Entry, Tree, empty, node, labels, slots, size}
 use Rattle.trees.specs.Heights.{height, isBalanced}
 use Rattle.trees.specs.Plain.{State, fresh}
 use Rattle.trees.specs.Valid.{ascends, exactlyUpTo}
-use Rattle.tables.specs.Words.{rootLink, labelsHeld, firstFree, highMark, slotStart, rowAt, partStart, partAt, entryAt}
+use Rattle.tables.specs.Words.{rootLink, labelsHeld, firstFree, highMark, rowAt, partAt, entryAt}
 use Rattle.tables.specs.Prefix.{placeWithin, sideWithin, balanceOf}
 
 -- ---- what the links give
@@ -110,7 +110,8 @@ counted limits table t = eqb (size t) (labelsHeld table) && leb (size t) (limits
 abbrev pub trueBalances : (table : List ℕ) → Tree → Bool
 trueBalances table empty = true
 trueBalances table (node l e r) =
-    eqb (rowAt table (e .slot) .balance) (balanceOf (height l) (height r)) && (trueBalances table l && trueBalances table r)
+    eqb (rowAt table (e .slot) .balance) (balanceOf (height l) (height r))
+    && (trueBalances table l && trueBalances table r)
 
 -- ---- "place and side are as defined"
 
@@ -121,7 +122,8 @@ truePrefixes table p s (node l e r) =
     && (eqb (rowAt table (e .slot) .side) (sideWithin p (e .label) s)
     && (truePrefixes table p (held (e .label)) l && truePrefixes table (held (e .label)) s r))
 
--- ---- "the free chain holds exactly the other slots up to the high mark": exactlyUpTo (highMark table) (slots t ++ freed)
+-- ---- "the free chain holds exactly the other slots up to the high mark":
+-- ---- exactlyUpTo (highMark table) (slots t ++ freed)
 
 -- the parts of the sentence, in its order
 unfoldable pub soundAs : Limits → (table store : List ℕ) → Tree → List ℕ → Bool

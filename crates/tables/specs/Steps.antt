@@ -16,7 +16,8 @@ pub data Step : Type 0 where
   go-right : (p s examined : ℕ) → Step
   stop : (examined : ℕ) → Step
 
--- "Compare examines places d, d + 1 and on .. At difference i: sought smaller, set S to i and go left; sought larger, set P to i and go right. Shared end: found."
+-- "Compare examines places d, d + 1 and on .. At difference i: sought smaller, set S to i and go left; sought larger,
+-- set P to i and go right. Shared end: found."
 -- "places counts places examined, the last one included"
 abbrev pub compareStep : Comparison → (d p s : ℕ) → Step
 compareStep (smaller i) d p s = go-left p i (suc i - d)
@@ -40,7 +41,8 @@ abbrev pub stepAt : (x c : Label) (side d p s : ℕ) → Step
 stepAt x c zero d p s = predecessorStep (compare p d) (compareStep (compareFrom d x c) d p s) p s
 stepAt x c (suc side) d p s = successorStep (compare s d) (compareStep (compareFrom d x c) d p s) p s
 
--- "the walk is broken if .. its length is 0 or above 64, its place is 0 or above its length plus 1, or its side is above 1"
+-- "the walk is broken if .. its length is 0 or above 64, its place is 0 or above its length plus 1, or its side is
+-- above 1"
 unfoldable pub isBad : Limits → Row → Bool
 isBad limits row =
     eqb (row .len) 0
@@ -67,7 +69,8 @@ walkBy (stop examined) e toLeft toRight = visited e examined (ended (record { vi
 abbrev pub missing : Walk
 missing = ended (record { visited = []; result = absent }) 0
 
--- the walk at a link, with so many nodes left to visit: broken "if its link is above 512, it would be the 13th node", or its row is bad
+-- the walk at a link, with so many nodes left to visit: broken "if its link is above 512, it would be the 13th node",
+-- or its row is bad
 abbrev pub steps : Limits → (table store : List ℕ) → Label → (left link p s : ℕ) → Walk
 steps limits table store x zero zero p s = missing
 steps limits table store x zero (suc k) p s = broken
@@ -76,7 +79,8 @@ steps limits table store x (suc left) (suc k) p s =
     elim (ltb (limits .slots) (suc k) || isBad limits (rowAt table (suc k))) [
       | true ↦ broken
       | false ↦ walkBy
-          (stepAt x (entryAt limits table store (suc k) .label) (rowAt table (suc k) .side) (rowAt table (suc k) .place) p s)
+          (stepAt x (entryAt limits table store (suc k) .label) (rowAt table (suc k) .side)
+          (rowAt table (suc k) .place) p s)
           (entryAt limits table store (suc k))
           (steps limits table store x left (rowAt table (suc k) .left))
           (steps limits table store x left (rowAt table (suc k) .right))

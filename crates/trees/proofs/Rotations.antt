@@ -6,10 +6,10 @@ use mathlib.Core.Path.{_≡_}
 use mathlib.Core.Bool.{Bool}
 use Prim.Native.Nat.{ℕ, suc, _≤_, min, max}
 use native.Mathlib.Omega.{arith}
+use Rattle.labels.proofs.Numbers.{Ltb, lt-yes, lt-no, ltb-view}
 use Rattle.trees.specs.Trees.{Entry, Tree, empty, node, Side, left, right, other, from, on}
 use Rattle.trees.specs.Heights.{height, Balanced}
 use Rattle.trees.specs.Turns.{rotated, turned, rebalancedBy, rebalanced}
-use Rattle.trees.proofs.Views.{Ltb, is-below, not-below, ltb-view}
 use Rattle.trees.proofs.Heights.{Kept, KeptSons, kept-of-balanced, balanced-of-kept}
 use Rattle.trees.proofs.Sides.{height-from, kept-from, height-on, sons-on}
 
@@ -68,10 +68,10 @@ module _ (s : Side) (outer : Tree) (y : Entry) (e : Entry) (short : Tree) (tall 
   settled-rotated : (inner : Tree) {lean : Bool} → Ltb (height outer) (height inner) lean → KeptSons outer inner
       → tall ≡ suc (max (height outer) (height inner))
       → Settled tall (height short) (rotated s lean outer y inner e short)
-  settled-rotated inner (not-below p) higher tall-height =
+  settled-rotated inner (lt-no p) higher tall-height =
       settled-once inner (higher .far-kept) (omega arith) p (omega arith)
-  settled-rotated empty (is-below p) higher tall-height = absurd (omega arith)
-  settled-rotated (node i w j) (is-below p) higher tall-height =
+  settled-rotated empty (lt-yes p) higher tall-height = absurd (omega arith)
+  settled-rotated (node i w j) (lt-yes p) higher tall-height =
       let inner-height = height-on s i w j in
       settled-twice (on s i j) w (on (other s) i j) (sons-on s i w j (higher .far-kept)) (omega arith) (omega arith)
 
@@ -90,11 +90,11 @@ module _ (l : Tree) (e : Entry) (r : Tree) (l-kept : Kept l) (r-kept : Kept r)
   settled-by : {tallLeft tallRight : Bool}
       → Ltb (suc (height r)) (height l) tallLeft → Ltb (suc (height l)) (height r) tallRight
       → Settled (height l) (height r) (rebalancedBy tallLeft tallRight l e r)
-  settled-by (is-below p) q = settled-turned left l e r l-kept r-kept (omega arith)
-  settled-by (not-below p) (is-below q) =
+  settled-by (lt-yes p) q = settled-turned left l e r l-kept r-kept (omega arith)
+  settled-by (lt-no p) (lt-yes q) =
       settled-swapped (height r) (height l) (turned right r e l)
       (settled-turned right r e l r-kept l-kept (omega arith))
-  settled-by (not-below p) (not-below q) =
+  settled-by (lt-no p) (lt-no q) =
       let top = built-from left l e r l-kept r-kept p q in
       record { kept = top .kept; over-near = omega arith; over-far = omega arith; within = omega arith }
 

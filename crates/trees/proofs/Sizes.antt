@@ -9,9 +9,9 @@ use mathlib.Core.List.{[]}
 use Prim.Native.Nat.{ℕ, zero, suc, _+_, _≤_, max}
 use native.Mathlib.Omega.{arith}
 use mathlib.Core.Bool.{Bool}
+use Rattle.labels.proofs.Numbers.{Ltb, lt-yes, lt-no, ltb-view}
 use Rattle.trees.specs.Trees.{Entry, Tree, empty, node, size}
 use Rattle.trees.specs.Heights.{height, Balanced, least, LeastIsLeast, Deepest, DepthIsDeepest}
-use Rattle.trees.proofs.Views.{Ltb, is-below, not-below, ltb-view}
 use Rattle.trees.proofs.Heights.{Kept, kept-of-balanced, balanced-of-kept}
 
 -- an entry for trees in which no entry matters
@@ -29,8 +29,8 @@ least-monotone low zero h = let same : low ≡ 0 = omega arith in rw same (omega
 least-monotone low (suc high) h = by-test (ltb-view high low) (least-monotone low high)
   where
     by-test : {b : Bool} → Ltb high low b → (low ≤ high → least low ≤ least high) → least low ≤ least (suc high)
-    by-test (is-below p) lower = let same : low ≡ suc high = omega arith in rw same (omega arith)
-    by-test (not-below p) lower = omega (arith, lower p, least-grows high)
+    by-test (lt-yes p) lower = let same : low ≡ suc high = omega arith in rw same (omega arith)
+    by-test (lt-no p) lower = omega (arith, lower p, least-grows high)
 
 -- A node over a son of height `high` and another at most one lower takes at least the least number of nodes.
 least-over : (low high : ℕ) → high ≤ suc low → least (suc high) ≤ suc (least low + least high)
@@ -42,8 +42,8 @@ least-over-both : (m n : ℕ) → m ≤ suc n → n ≤ suc m → least (suc (ma
 least-over-both m n p q = by-test (ltb-view m n)
   where
     by-test : {b : Bool} → Ltb m n b → least (suc (max m n)) ≤ suc (least m + least n)
-    by-test (is-below below) = let top : max m n ≡ n = omega arith in rw top (omega (arith, least-over m n q))
-    by-test (not-below within) = let top : max m n ≡ m = omega arith in rw top (omega (arith, least-over n m p))
+    by-test (lt-yes below) = let top : max m n ≡ n = omega arith in rw top (omega (arith, least-over m n q))
+    by-test (lt-no within) = let top : max m n ≡ m = omega arith in rw top (omega (arith, least-over n m p))
 
 -- A tree that keeps the height rule has at least the least number of nodes of its height.
 size-of-kept : (t : Tree) → Kept t → least (height t) ≤ size t
@@ -110,8 +110,8 @@ deepest-is-depth capacity depth deepest =
     }
   where
     by-test : (t : Tree) → Balanced t → size t ≤ capacity → {b : Bool} → Ltb depth (height t) b → height t ≤ depth
-    by-test t h fits (is-below p) = absurd (omega (arith, least-below-height t h (suc depth) p))
-    by-test t h fits (not-below p) = p
+    by-test t h fits (lt-yes p) = absurd (omega (arith, least-below-height t h (suc depth) p))
+    by-test t h fits (lt-no p) = p
 
 -- 512 nodes allow height 12, and 32 allow 6.
 pub hub-depth : Deepest 512 12

@@ -1,4 +1,5 @@
--- The plain tree with its freed slots and high mark, and what a call does to it ('The cost rule' of document 01). Capacity and label width are parameters.
+-- The plain tree with its freed slots and high mark, and what a call does to it ('The cost rule' of document 01).
+-- Capacity and label width are parameters.
 use mathlib.Core.List.{List, [], _∷_}
 use mathlib.Core.Bool.{Bool, true, false}
 use Prim.Native.Nat.{ℕ, suc}
@@ -50,7 +51,10 @@ afterSearch (found e) s = record { reply = found-at (e .slot) (e .value); state 
 
 abbrev pub hung : Label → ℕ → ℕ → Tree → List ℕ → ℕ → After
 hung x v k t freed high =
-    record { reply = updated k; state = record { tree = inserted (record { label = x; value = v; slot = k }) t; freed = freed; high = high } }
+    record {
+      reply = updated k;
+      state = record { tree = inserted (record { label = x; value = v; slot = k }) t; freed = freed; high = high };
+    }
 
 -- "A new label takes the slot freed last; if none is free, the slot just above the high mark, which rises by one."
 abbrev pub newEntry : Label → ℕ → Tree → List ℕ → ℕ → After
@@ -70,7 +74,10 @@ afterInsert capacity (found e) x v s = refuse 7 s
 abbrev pub afterDelete : Held → Label → State → After
 afterDelete absent x s = refuse 8 s
 afterDelete (found e) x s =
-    record { reply = updated (e .slot); state = record { tree = deleted x (s .tree); freed = e .slot ∷ s .freed; high = s .high } }
+    record {
+      reply = updated (e .slot);
+      state = record { tree = deleted x (s .tree); freed = e .slot ∷ s .freed; high = s .high };
+    }
 
 abbrev pub afterHeld : ℕ → Call → Held → State → After
 afterHeld capacity (search x) h s = afterSearch h s
@@ -82,7 +89,8 @@ afterLength true long capacity c s = refuse 3 s
 afterLength false true capacity c s = refuse 4 s
 afterLength false false capacity c s = afterHeld capacity c (fullSearch (soughtBy c) (s .tree) .result) s
 
--- "Any call: length 0 is refused by 3, above 64 by 4, with no search made. Otherwise the full comparison search is made first."
+-- "Any call: length 0 is refused by 3, above 64 by 4, with no search made. Otherwise the full comparison search is made
+-- first."
 abbrev pub plainStep : (capacity width : ℕ) → Call → State → After
 plainStep capacity width c s =
     afterLength (eqb (length (soughtBy c)) 0) (ltb width (length (soughtBy c))) capacity c s

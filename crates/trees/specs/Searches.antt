@@ -22,7 +22,8 @@ searchBy (smaller i) e l r = visit e l
 searchBy (same i) e l r = visit e (record { visited = []; result = found e })
 searchBy (larger i) e l r = visit e r
 
--- "A full comparison search starts at its root and at each node visited compares the whole labels .. A missing son means absent."
+-- "A full comparison search starts at its root and at each node visited compares the whole labels .. A missing son
+-- means absent."
 abbrev pub fullSearch : Label → Tree → Search
 fullSearch x empty = record { visited = []; result = absent }
 fullSearch x (node l e r) = searchBy (compareLabels x (e .label)) e (fullSearch x l) (fullSearch x r)

@@ -5,8 +5,10 @@ use lib.Dec.{ltb}
 use Rattle.trees.specs.Trees.{Entry, Tree, empty, node, Side, left, right, other, from, on}
 use Rattle.trees.specs.Heights.{height}
 
--- "one rotation if the taller son is even or leans the same way (false), a double one if it leans the other way (true)".
--- The taller son has the entry y, and the subtrees outer, away from the node, and inner, towards it; e and short are the node's entry and its other son.
+-- "one rotation if the taller son is even or leans the same way (false), a double one if it leans the other way
+-- (true)".
+-- The taller son has the entry y, and the subtrees outer, away from the node, and inner, towards it; e and short are
+-- the node's entry and its other son.
 abbrev pub rotated : Side → Bool → Tree → Entry → Tree → Entry → Tree → Tree
 rotated s false outer y inner e short = from s outer y (from s inner e short)
 rotated s true outer y empty e short = from s outer y (from s empty e short)

@@ -1,4 +1,5 @@
--- The states that the plain tree can be in: the parts of document 01's sentence on sound tables that speak of the tree and its slots alone.
+-- The states that the plain tree can be in: the parts of document 01's sentence on sound tables that speak of the tree
+-- and its slots alone.
 use mathlib.Core.List.{List, [], _∷_, _++_}
 use mathlib.Core.Path.{_≡_}
 use mathlib.Core.Bool.{Bool, true, false, _&&_}

@@ -1,5 +1,6 @@
 -- A tree in the rows of a table, with the root's place counted as 0, and what an update of a subtree has to leave.
--- `bareRow`, `Rep`: the tree in the rows. `Frame`: the words that stay. `Refines`: an update of the words is the update of the tree.
+-- `bareRow`, `Rep`: the tree in the rows. `Frame`: the words that stay. `Refines`: an update of the words is the update
+-- of the tree.
 -- `GrowRefines`, `ShrinkRefines`: so of a node over its near son that was inserted into or deleted from.
 use mathlib.Core.List.{List}
 use mathlib.Core.Path.{_≡_}

@@ -66,7 +66,8 @@ toParent false = 1
 toParent true = 0
 
 -- whether a rotation of the near son over its parent exchanges their prefix fields. The root's place counts as 0.
--- A tie goes to the predecessor, so of two equal places a right son's parent keeps its own where its side is predecessor.
+-- A tie goes to the predecessor, so of two equal places a right son's parent keeps its own where its side is
+-- predecessor.
 unfoldable pub exchanges : Bool → (parent son : Row) → Bool
 exchanges flip parent son =
     eqb (son .side) (toParent flip)

@@ -1,14 +1,17 @@
 -- What a call answers, in the numbers of document 01 ('Updates' and 'Where each call turns away').
 use Prim.Native.Nat.{ℕ}
 use Rattle.types.specs.declared.Refusal.{Refusal}
-use Rattle.types.specs.declared.Refusal.the-variants.{WrongTable, WrongStore, EmptyLabel, LongLabel, WrongSlot, BrokenWalk, NotSound, AlreadyHeld, NotHeld, Full, ShortList}
+use Rattle.types.specs.declared.Refusal.the-variants.{WrongTable, WrongStore, EmptyLabel, LongLabel, WrongSlot}
+use Rattle.types.specs.declared.Refusal.the-variants.{BrokenWalk, NotSound, AlreadyHeld, NotHeld, Full, ShortList}
 use Rattle.types.specs.declared.SearchAnswer as search
 use Rattle.types.specs.declared.UpdateAnswer as update
 use Rattle.types.specs.declared.DoneAnswer as plain
 use Rattle.types.specs.declared.ListAnswer as list
 
--- "A search answer is one of found with slot, value and both counts, absent with both counts, or a refusal; a delete or insert gives the slot and its search's counts";
--- layout, the check and the view's first call "answer only that they are done"; a listing "gives their number"
+-- "A search answer is one of found with slot, value and both counts, absent with both counts, or a refusal; a delete or
+-- insert gives the slot and its search's counts"; layout, the check and the view's first call "answer only that they
+-- are
+-- done"; a listing "gives their number"
 pub data Answer : Type 0 where
   found : (slot value visits places : ℕ) → Answer
   absent : (visits places : ℕ) → Answer

@@ -12,7 +12,8 @@ use Rattle.checks.specs.Check.{belowIn, aboveIn}
 use Rattle.turns.specs.Rows.{rowOn, prefixed}
 use Rattle.updates.specs.declared.Fields.{Fields}
 
--- the fields of the node in slot k between the nodes in the slots below and above, 0 for none; the root's place counts as 0
+-- the fields of the node in slot k between the nodes in the slots below and above, 0 for none; the root's place counts
+-- as 0
 unfoldable pub fieldsBetween : Limits → (table store : List ℕ) → (k below above : ℕ) → Fields
 fieldsBetween limits table store k below above =
     let x = held (entryAt limits table store k .label) in
@@ -25,7 +26,8 @@ renewed limits table store k below above =
     let fields = fieldsBetween limits table store k below above in
     putRow table k (prefixed (rowAt table k) (fields .place) (fields .side))
 
--- the spine from k towards the node m that comes next to it, at most left nodes long; last is the neighbour on the other side.
+-- the spine from k towards the node m that comes next to it, at most left nodes long; last is the neighbour on the
+-- other side.
 -- Not flipped it goes right and m is above; flipped it goes left, m is below, and the spine ends at m.
 unfoldable pub renewedSpine : Limits → Bool → (left : ℕ) → (table store : List ℕ) → (k last m : ℕ) → List ℕ
 renewedSpine limits flip zero table store k last m = table
