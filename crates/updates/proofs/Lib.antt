@@ -36,4 +36,5 @@ pub mod Bytes
 pub mod RowsFits
 pub mod RenewalLaws
 pub mod SpineLaws
-pub mod InsertLaws
+pub mod UpdateLaws
+pub mod WrittenFits

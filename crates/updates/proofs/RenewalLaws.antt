@@ -33,7 +33,8 @@ place-of-order Same place = refl
 place-of-order Larger place = refl
 
 -- A comparison from place 1 ends at the difference place.
-pub place-of-compared : (x y : Label) (r : Compared) → comparisonOf r ≡ compareFrom 1 x y → r .place ≡ differencePlace x y
+pub place-of-compared : (x y : Label) (r : Compared) → comparisonOf r ≡ compareFrom 1 x y
+    → r .place ≡ differencePlace x y
 unfolding compareFrom compareLabels differencePlace
 place-of-compared x y r same = sym (place-of-order (r .order) (r .place)) ∙ ap placeOf same
 
@@ -43,18 +44,21 @@ module _ (limits : Limits) (table store : List ℕ) where
       → lower ≡ entryAt limits table store below .label → place ≡ differencePlace lower label
       → place ≡ difference (belowIn limits table store below) (held label)
   difference-below zero label lower place some of-lower of-place = absurd (some refl)
-  difference-below (suc k) label lower place some of-lower of-place = of-place ∙ ap (λ x. differencePlace x label) of-lower
+  difference-below (suc k) label lower place some of-lower of-place =
+      of-place ∙ ap (λ x. differencePlace x label) of-lower
 
   -- The difference place with a node above.
   pub difference-above : (above : ℕ) (label upper : Label) (place : ℕ) → above ≢ 0
       → upper ≡ entryAt limits table store above .label → place ≡ differencePlace label upper
       → place ≡ difference (held label) (aboveIn limits table store above)
   difference-above zero label upper place some of-upper of-place = absurd (some refl)
-  difference-above (suc k) label upper place some of-upper of-place = of-place ∙ ap (λ x. differencePlace label x) of-upper
+  difference-above (suc k) label upper place some of-upper of-place =
+      of-place ∙ ap (λ x. differencePlace label x) of-upper
 
   module _ (k below above : ℕ) where
     -- The fields between two neighbours.
-    pub fields-by-differences : (label : Label) (lower upper : ℕ) (fields : Fields) → label ≡ entryAt limits table store k .label
+    pub fields-by-differences : (label : Label) (lower upper : ℕ) (fields : Fields)
+        → label ≡ entryAt limits table store k .label
         → lower ≡ difference (belowIn limits table store below) (held label)
         → upper ≡ difference (held label) (aboveIn limits table store above)
         → fields .place ≡ max lower upper → fields .side ≡ sideBy lower upper
@@ -84,7 +88,8 @@ module _ (limits : Limits) (table store : List ℕ) where
   renewed-no-son son below above none = simp (eq-eqb son 0 none)
 
   -- An only son is renewed.
-  pub renewed-only-son : (son below above : ℕ) (after : List ℕ) → son ≢ 0 → after ≡ renewed limits table store son below above
+  pub renewed-only-son : (son below above : ℕ) (after : List ℕ) → son ≢ 0
+      → after ≡ renewed limits table store son below above
       → after ≡ renewedSon limits table store son below above
   unfolding renewedSon
   renewed-only-son son below above after some stored = simp (ne-eqb son 0 some) stored

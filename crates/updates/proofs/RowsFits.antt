@@ -2,8 +2,8 @@
 -- `rows-fit-put`: where the row stored has such a length.
 -- `rows-fit-prefixed`: where a row gets other prefix fields.
 -- `rows-fit-root-placed`: where the root's place is stored.
-use Prim.Native.Nat.{ℕ, zero, suc, _+_, _-_, _*_, _≤_, _<_}
-use mathlib.Core.Path.{_≡_, refl}
+use Prim.Native.Nat.{ℕ, zero, suc, _+_, _-_, _≤_, _<_}
+use mathlib.Core.Path.{_≡_}
 use mathlib.Core.Logic.{_≢_}
 use mathlib.Core.List.{List, [], _∷_}
 use mathlib.Core.Bool.{Bool, true, false, cond}

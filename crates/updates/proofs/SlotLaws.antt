@@ -1,20 +1,20 @@
 -- Slots taken and freed, in the form in which the code takes and frees them.
 -- `popped`: a table without the first slot of its free chain.
--- `popped-none`, `popped-first`: the free chain's first slot, where there is none and where there is one.
+-- `none-free`, `first-free`: the free chain's first slot, where there is none and where there is one.
+-- `popped-none`, `popped-first`: what is left of the chain there.
 -- `popped-as-it-was`: where no slot is free, the table stays.
 -- `taken-above`, `taken-freed`: the slot taken, above the high mark and from the free chain.
 -- `no-root-placed`, `root-placed`: the root's place stored, without a root and with one.
 use Prim.Native.Nat.{ℕ, _+_}
-use mathlib.Core.Path.{_≡_, refl, sym, ap, _∙_}
+use mathlib.Core.Path.{_≡_, refl, sym, _∙_}
 use mathlib.Core.Logic.{_≢_}
 use mathlib.Core.List.{List}
 use mathlib.Core.Bool.{Bool, true, false, cond}
-use native.Mathlib.Omega.{arith}
 use lib.Dec.{eqb}
 use lib.ListN.{getD, set}
 use borrow.Author.Tests.{eq-eqb, ne-eqb}
 use Rattle.types.specs.declared.Row.{Row}
-use Rattle.tables.specs.Words.{rootLink, firstFree, highMark, rowAt}
+use Rattle.tables.specs.Words.{rootLink, firstFree, rowAt}
 use Rattle.words.specs.Rows.{putRow}
 use Rattle.turns.specs.Rows.{prefixed}
 use Rattle.updates.specs.declared.Free.{Free}
@@ -25,26 +25,29 @@ abbrev pub popped : List ℕ → List ℕ
 popped table = cond (eqb (firstFree table) 0) table (set table 2 (rowAt table (firstFree table) .left))
 
 -- No slot is free.
-pub popped-none : (table : List ℕ) {first : ℕ} → first ≡ firstFree table → first ≡ 0
-    → (None ≡ freeSlot table) × (table ≡ popped table)
+pub none-free : (table : List ℕ) (first : ℕ) → first ≡ firstFree table → first ≡ 0 → None ≡ freeSlot table
 unfolding freeSlot
-popped-none table read none =
-    let empty = eq-eqb (firstFree table) 0 (sym read ∙ none) in
-    (simp empty, simp empty)
+none-free table first read none = simp (eq-eqb (firstFree table) 0 (sym read ∙ none))
 
--- The first slot of the free chain is taken out of it.
-pub popped-first : (table after : List ℕ) {first : ℕ} {row : Row} → first ≡ firstFree table → first ≢ 0
-    → row ≡ rowAt table first → after ≡ set table 2 (row .left) → (Slot first ≡ freeSlot table) × (after ≡ popped table)
+pub popped-none : (table : List ℕ) (first : ℕ) → first ≡ firstFree table → first ≡ 0 → table ≡ popped table
+popped-none table first read none = simp (eq-eqb (firstFree table) 0 (sym read ∙ none))
+
+-- The first slot of the free chain is free, and is taken out of the chain.
+pub first-free : (table : List ℕ) (first : ℕ) → first ≡ firstFree table → first ≢ 0 → Slot first ≡ freeSlot table
 unfolding freeSlot
-popped-first table after read some of-row stored =
-    let full = ne-eqb (firstFree table) 0 (λ none. some (read ∙ none)) in
-    (simp full (cc), simp full (cc))
+first-free table first read some = simp (ne-eqb (firstFree table) 0 (λ none. some (read ∙ none))) (cc)
+
+pub popped-first : (table after : List ℕ) (first : ℕ) (row : Row) → first ≡ firstFree table → first ≢ 0
+    → row ≡ rowAt table first → after ≡ set table 2 (row .left) → after ≡ popped table
+popped-first table after first row read some of-row stored =
+    simp (ne-eqb (firstFree table) 0 (λ none. some (read ∙ none))) (cc)
 
 none-only : (empty : Bool) (first : ℕ) → None ≡ cond empty None (Slot first) → empty ≡ true
 none-only true first same = refl
 none-only false first same = cc
 
-slot-only : (empty : Bool) (first slot : ℕ) → Slot slot ≡ cond empty None (Slot first) → (empty ≡ false) × (slot ≡ first)
+slot-only : (empty : Bool) (first slot : ℕ) → Slot slot ≡ cond empty None (Slot first)
+    → (empty ≡ false) × (slot ≡ first)
 slot-only true first slot same = ((cc), cc)
 slot-only false first slot same = (refl, cc)
 
@@ -75,7 +78,8 @@ taken-freed table below {slot = slot} of-table left some =
     (simp (full .0) (full .1), left ∙ simp (full .0))
 
 -- Without a root no place is stored.
-pub no-root-placed : (table : List ℕ) (place : ℕ) {root : ℕ} → root ≡ rootLink table → root ≡ 0 → table ≡ withRootPlace table place
+pub no-root-placed : (table : List ℕ) (place : ℕ) {root : ℕ} → root ≡ rootLink table → root ≡ 0
+    → table ≡ withRootPlace table place
 unfolding withRootPlace
 no-root-placed table place read none = let empty = eq-eqb (rootLink table) 0 (sym read ∙ none) in simp empty
 

@@ -1,7 +1,7 @@
 -- The nodes around one that is to be taken out, renewed step by step as the code goes.
 -- `spine-none`, `spine-empty`, `spine-at-next`: a spine that ends.
 -- `spine-over`: a node of a spine, and the rest of the spine.
--- `least-here`, `least-below`: the smallest node is this one, or below it.
+-- `least-none`, `least-here`, `least-below`: the smallest node is this one, or below it.
 -- `spines-in-turn`: both spines.
 -- `around-right`, `around-left`, `around-two`: around a node with at most a right son, with a left son, and with both.
 use Prim.Native.Nat.{ℕ, zero, suc, _-_}
@@ -40,12 +40,14 @@ spine-stops limits flip (suc left) table store k last m (inr next) = simp next (
 -- The spine is empty.
 pub spine-empty : (limits : Limits) (flip : Bool) (left : ℕ) (table store : List ℕ) (k last m : ℕ) → k ≡ 0
     → table ≡ renewedSpine limits flip left table store k last m
-spine-empty limits flip left table store k last m none = spine-stops limits flip left table store k last m (inl (eq-eqb k 0 none))
+spine-empty limits flip left table store k last m none =
+    spine-stops limits flip left table store k last m (inl (eq-eqb k 0 none))
 
 -- The spine is at the next node.
 pub spine-at-next : (limits : Limits) (flip : Bool) (left : ℕ) (table store : List ℕ) (k last m : ℕ) → k ≡ m
     → table ≡ renewedSpine limits flip left table store k last m
-spine-at-next limits flip left table store k last m next = spine-stops limits flip left table store k last m (inr (eq-eqb k m next))
+spine-at-next limits flip left table store k last m next =
+    spine-stops limits flip left table store k last m (inr (eq-eqb k m next))
 
 spine-step : (limits : Limits) (flip : Bool) (left : ℕ) (table store : List ℕ) (k last m : ℕ) → left ≢ 0 → k ≢ 0 → k ≢ m
     → renewedSpine limits flip left table store k last m
@@ -80,7 +82,8 @@ least-here zero table k row of-row none = refl
 least-here (suc left) table k row of-row none = simp (← of-row, eq-eqb (row .left) 0 none)
 
 -- The smallest node is below.
-pub least-below : (left : ℕ) (table : List ℕ) (k deeper : ℕ) (row : Row) → left ≢ 0 → row ≡ rowAt table k → row .left ≢ 0
+pub least-below : (left : ℕ) (table : List ℕ) (k deeper : ℕ) (row : Row) → left ≢ 0 → row ≡ rowAt table k
+    → row .left ≢ 0
     → deeper ≡ leastFrom (left - 1) table (row .left) → deeper ≡ leastFrom left table k
 unfolding leastFrom
 least-below zero table k deeper row some of-row more rest = absurd (some refl)
@@ -104,7 +107,9 @@ module _ (limits : Limits) (table store : List ℕ) (c below above : ℕ) (row :
       → (noFields ≡ renewedAround limits table store c below above .next)
       × (after ≡ renewedAround limits table store c below above .table)
   unfolding renewedAround
-  around-right after none stored = let empty = eq-eqb (row .left) 0 none in (simp (← of-row, empty), simp (← of-row, empty) stored)
+  around-right after none stored =
+      let empty = eq-eqb (row .left) 0 none in
+      (simp (← of-row, empty), simp (← of-row, empty) stored)
 
   -- Around a node without a right son.
   pub around-left : (after : List ℕ) → row .left ≢ 0 → row .right ≡ 0

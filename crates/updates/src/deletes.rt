@@ -24,7 +24,8 @@ pub fn get_ready(limits: Limits, table: &mut [u16], store: &[u8], trace: Trace) 
 // Takes the node at the end of the path out of the tree. The fields are those of the node that takes its place.
 pub fn take_out(limits: Limits, table: &mut [u16], root: u16, trace: Trace, next: Fields)
     ensures { λ _. ⌜ now (table .exit) ≡ rooted
-        (deleteAlong (trace .length) (trace .path) (limits .depth) (now (table .entry)) root (next .place) (next .side)) ⌝ }
+        (deleteAlong (trace .length) (trace .path) (limits .depth) (now (table .entry)) root
+        (next .place) (next .side)) ⌝ }
 {
     let top = turns::update::delete_along(
         table,

@@ -50,7 +50,8 @@ pub fn rooted(table: &mut [u16], top: Rebuilt)
 pub fn count_in(table: &mut [u16]) -> u16
     requires { ⌜ CanGrow (now table) ⌝ }
     ensures { λ r. ⌜ r ≡ slotTaken (now (table .entry)) ⌝ }
-    ensures { λ _. ⌜ now (table .exit) ≡ withCount (afterTaken (now (table .entry))) (labelsHeld (now (table .entry)) + 1) ⌝ }
+    ensures { λ _. ⌜ now (table .exit)
+        ≡ withCount (afterTaken (now (table .entry))) (labelsHeld (now (table .entry)) + 1) ⌝ }
 {
     let held = words::total::word(table, 1);
     let slot = slots::take_slot(table);

@@ -1,5 +1,6 @@
 // Insert and delete: slots taken and freed, labels stored and cleared, prefix fields renewed, and the tree put in
 // balance.
+
 pub mod deletes;
 pub mod inserts;
 pub mod renewals;

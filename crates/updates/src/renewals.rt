@@ -61,7 +61,8 @@ pub fn difference_below(
 ) -> u16
     requires { ⌜ RowsFit limits (now table) ⌝ }
     requires { ⌜ length (now label) ≤ limits .width ⌝ }
-    ensures { λ r. ⌜ r ≡ difference (belowIn limits (now (table .entry)) (now (store .entry)) below) (held (now (label .entry))) ⌝ }
+    ensures { λ r. ⌜ r
+        ≡ difference (belowIn limits (now (table .entry)) (now (store .entry)) below) (held (now (label .entry))) ⌝ }
 {
     if below == 0 {
         return 0;
@@ -78,7 +79,8 @@ pub fn difference_above(
     above: u16,
 ) -> u16
     requires { ⌜ RowsFit limits (now table) ⌝ }
-    ensures { λ r. ⌜ r ≡ difference (held (now (label .entry))) (aboveIn limits (now (table .entry)) (now (store .entry)) above) ⌝ }
+    ensures { λ r. ⌜ r
+        ≡ difference (held (now (label .entry))) (aboveIn limits (now (table .entry)) (now (store .entry)) above) ⌝ }
 {
     if above == 0 {
         return 0;
@@ -171,7 +173,8 @@ pub fn renew_spine(
     m: u16,
 )
     requires { ⌜ RowsFit limits (now table) ⌝ }
-    ensures { λ _. ⌜ now (table .exit) ≡ renewedSpine limits flip left (now (table .entry)) (now (store .entry)) k last m ⌝ }
+    ensures { λ _. ⌜ now (table .exit)
+        ≡ renewedSpine limits flip left (now (table .entry)) (now (store .entry)) k last m ⌝ }
     ensures { λ _. ⌜ RowsFit limits (now (table .exit)) ⌝ }
 {
     if left == 0 {
@@ -213,7 +216,8 @@ pub fn renew_spines(
     m: u16,
 )
     requires { ⌜ RowsFit limits (now table) ⌝ }
-    ensures { λ _. ⌜ now (table .exit) ≡ renewedSpines limits (now (table .entry)) (now (store .entry)) c below above m ⌝ }
+    ensures { λ _. ⌜ now (table .exit)
+        ≡ renewedSpines limits (now (table .entry)) (now (store .entry)) c below above m ⌝ }
 {
     let row = words::total::row_of(table, c);
     renew_spine(
@@ -282,7 +286,8 @@ pub fn renew_around(
 ) -> Fields
     requires { ⌜ RowsFit limits (now table) ⌝ }
     ensures { λ r. ⌜ r ≡ renewedAround limits (now (table .entry)) (now (store .entry)) c below above .next ⌝ }
-    ensures { λ _. ⌜ now (table .exit) ≡ renewedAround limits (now (table .entry)) (now (store .entry)) c below above .table ⌝ }
+    ensures { λ _. ⌜ now (table .exit)
+        ≡ renewedAround limits (now (table .entry)) (now (store .entry)) c below above .table ⌝ }
 {
     let row = words::total::row_of(table, c);
     if row.left == 0 {

@@ -1,12 +1,7 @@
 -- `updates::deletes::count_out` meets its contract: none less than no label is none.
-use mathlib.Core.Path.{ap, _∙_}
 use borrow.Author.Needs.{needs}
 use Rattle.updates.proofs.deletes.count_out.Statement.{statement}
 use Rattle.updates.proofs.deletes.count_out.Tie as tie
-use Rattle.updates.proofs.deletes.count_out.Reads as reads
-use Rattle.updates.proofs.deletes.count_out.Lts as lts
-use Rattle.updates.proofs.slots.free_slot.Reads as free-slot-reads
-use Rattle.updates.proofs.slots.set_count.Reads as set-count-reads
 
 free-slot-requires : tie.Need-free-slot-requires
 free-slot-requires c κs = search needs
@@ -25,10 +20,7 @@ same-length c = search needs
 
 returns : tie.Need-returns
 returns c =
-    let counted = c .before .before in
-    let some = counted .before .before in
-    let freed = some .before .before .before in
-    simp (some .if1 .taken) (cc)
+    simp (c .before .before .before .before .if1 .taken) (cc)
 
 same-length-2 : tie.Need-same-length-2
 same-length-2 c = search needs

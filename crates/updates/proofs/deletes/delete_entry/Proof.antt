@@ -1,15 +1,8 @@
 -- `updates::deletes::delete_entry` meets its contract: the labels are read before the store is cleared.
-use Rattle.updates.proofs.InsertLaws.{deleted-in-turn}
+use Rattle.updates.proofs.UpdateLaws.{deleted-in-turn}
 use borrow.Author.Needs.{needs}
 use Rattle.updates.proofs.deletes.delete_entry.Statement.{statement}
 use Rattle.updates.proofs.deletes.delete_entry.Tie as tie
-use Rattle.updates.proofs.deletes.delete_entry.Reads as reads
-use Rattle.updates.proofs.deletes.delete_entry.Lts as lts
-use Rattle.updates.proofs.deletes.count_out.Reads as count-out-reads
-use Rattle.updates.proofs.deletes.get_ready.Reads as get-ready-reads
-use Rattle.updates.proofs.deletes.take_out.Reads as take-out-reads
-use Rattle.updates.proofs.slots.clear_label.Reads as clear-label-reads
-use Rattle.words.proofs.total.word.Reads as word-reads
 
 word-requires : tie.Need-word-requires
 word-requires c κs = search needs
@@ -36,19 +29,7 @@ same-length-2 : tie.Need-same-length-2
 same-length-2 c = search needs
 
 returns : tie.Need-returns
-returns c =
-    let cleared = c .before .before in
-    let counted = cleared .before .before .before .before in
-    let out = counted .before .before .before .before in
-    let ready = out .before .before .before .before in
-    let held = ready .before .before .before in
-    let root = held .before .before in
-    let at-entry = root .before .before .before .before .args in
-    let table =
-    deleted-in-turn (at-entry .limits) (at-entry .table .now) (at-entry .store .now) (at-entry .trace) _ _ _ _ _ _
-    (root .word .ensures) (held .word2 .ensures) (ready .get-ready .ensures .0) (ready .get-ready .ensures .1)
-    (out .take-out .ensures) (counted .count-out .ensures) in
-    (table, cleared .clear-label .ensures)
+returns c = (search deleted-in-turn, search needs)
 
 pub delete-entry-spec : {M : Type 1} → statement M
 delete-entry-spec =

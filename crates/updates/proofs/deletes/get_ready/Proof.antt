@@ -5,10 +5,6 @@ use Rattle.updates.specs.Renewals.{renewedAround}
 use borrow.Author.Needs.{needs}
 use Rattle.updates.proofs.deletes.get_ready.Statement.{statement}
 use Rattle.updates.proofs.deletes.get_ready.Tie as tie
-use Rattle.updates.proofs.deletes.get_ready.Reads as reads
-use Rattle.updates.proofs.deletes.get_ready.Lts as lts
-use Rattle.updates.proofs.renewals.renew_around.Reads as renew-around-reads
-use Rattle.updates.proofs.slots.set_root_place.Reads as set-root-place-reads
 
 set-root-place-requires : tie.Need-set-root-place-requires
 set-root-place-requires c κs = search needs

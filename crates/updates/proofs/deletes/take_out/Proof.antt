@@ -1,12 +1,8 @@
 -- `updates::deletes::take_out` meets its contract: the tree without the node, then its root.
-use Rattle.updates.proofs.InsertLaws.{rooted-after}
+use Rattle.updates.proofs.UpdateLaws.{rooted-after}
 use borrow.Author.Needs.{needs}
 use Rattle.updates.proofs.deletes.take_out.Statement.{statement}
 use Rattle.updates.proofs.deletes.take_out.Tie as tie
-use Rattle.updates.proofs.deletes.take_out.Reads as reads
-use Rattle.updates.proofs.deletes.take_out.Lts as lts
-use Rattle.turns.proofs.update.delete_along.Reads as delete-along-reads
-use Rattle.updates.proofs.inserts.rooted.Reads as rooted-reads
 
 delete-along-requires : tie.Need-delete-along-requires
 delete-along-requires c κs = search needs

@@ -1,15 +1,7 @@
 -- `updates::inserts::count_in` meets its contract: the slot, then the count.
-use mathlib.Core.Path.{ap, _∙_}
-use Prim.Native.Nat.{_+_}
-use Rattle.updates.specs.Slots.{afterTaken, withCount}
 use borrow.Author.Needs.{needs}
 use Rattle.updates.proofs.inserts.count_in.Statement.{statement}
 use Rattle.updates.proofs.inserts.count_in.Tie as tie
-use Rattle.updates.proofs.inserts.count_in.Reads as reads
-use Rattle.updates.proofs.inserts.count_in.Lts as lts
-use Rattle.updates.proofs.slots.set_count.Reads as set-count-reads
-use Rattle.updates.proofs.slots.take_slot.Reads as take-slot-reads
-use Rattle.words.proofs.total.word.Reads as word-reads
 
 word-requires : tie.Need-word-requires
 word-requires c κs = search needs

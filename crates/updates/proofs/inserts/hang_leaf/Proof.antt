@@ -3,11 +3,6 @@ use Rattle.updates.specs.Inserts.{withLeaf}
 use borrow.Author.Needs.{needs}
 use Rattle.updates.proofs.inserts.hang_leaf.Statement.{statement}
 use Rattle.updates.proofs.inserts.hang_leaf.Tie as tie
-use Rattle.updates.proofs.inserts.hang_leaf.Reads as reads
-use Rattle.updates.proofs.inserts.hang_leaf.Lts as lts
-use Rattle.updates.proofs.inserts.count_in.Reads as count-in-reads
-use Rattle.updates.proofs.inserts.put_leaf.Reads as put-leaf-reads
-use Rattle.updates.proofs.slots.set_root_place.Reads as set-root-place-reads
 
 count-in-requires : tie.Need-count-in-requires
 count-in-requires c κs = search needs

@@ -1,17 +1,10 @@
 -- `updates::inserts::insert_entry` meets its contract: the leaf, its label, the tree in balance, the root.
 use mathlib.Core.Path.{ap, _∙_}
 use Rattle.updates.specs.Slots.{withLabel}
-use Rattle.updates.proofs.InsertLaws.{inserted-in-turn}
+use Rattle.updates.proofs.UpdateLaws.{inserted-in-turn}
 use borrow.Author.Needs.{needs}
 use Rattle.updates.proofs.inserts.insert_entry.Statement.{statement}
 use Rattle.updates.proofs.inserts.insert_entry.Tie as tie
-use Rattle.updates.proofs.inserts.insert_entry.Reads as reads
-use Rattle.updates.proofs.inserts.insert_entry.Lts as lts
-use Rattle.turns.proofs.update.insert_along.Reads as insert-along-reads
-use Rattle.updates.proofs.inserts.hang_leaf.Reads as hang-leaf-reads
-use Rattle.updates.proofs.inserts.rooted.Reads as rooted-reads
-use Rattle.updates.proofs.slots.set_label.Reads as set-label-reads
-use Rattle.words.proofs.total.word.Reads as word-reads
 
 word-requires : tie.Need-word-requires
 word-requires c κs = search needs
@@ -36,20 +29,15 @@ same-length-2 c = search needs
 
 returns : tie.Need-returns
 returns c =
-    let set-root = c .before .before in
-    let along = set-root .before .before .before .before in
+    let along = c .before .before .before .before .before .before in
     let stored = along .before .before .before .before in
     let hung = stored .before .before .before .before in
-    let root = hung .before .before in
-    let at-entry = root .before .before .before .before .before .args in
-    let table = at-entry .table .now in
+    let at-entry = hung .before .before .before .before .before .before .before .args in
     let label = at-entry .label .now in
     let of-slot = hung .hang-leaf .ensures .0 in
-    let of-table =
-    inserted-in-turn table label (at-entry .value) (at-entry .trace) _ _ _ _ _ _ (root .word .ensures) of-slot
-    (hung .hang-leaf .ensures .1) (along .insert-along .ensures) (set-root .rooted .ensures) in
-    let of-store = stored .set-label .ensures ∙ ap (λ k. withLabel (at-entry .limits) (at-entry .store .now) k label) of-slot in
-    (of-slot, (of-table, of-store))
+    let of-store =
+    stored .set-label .ensures ∙ ap (λ k. withLabel (at-entry .limits) (at-entry .store .now) k label) of-slot in
+    (of-slot, (search inserted-in-turn, of-store))
 
 pub insert-entry-spec : {M : Type 1} → statement M
 insert-entry-spec =

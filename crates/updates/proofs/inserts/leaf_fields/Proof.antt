@@ -1,11 +1,8 @@
 -- `updates::inserts::leaf_fields` meets its contract: each return is a case of the definition.
-use Rattle.updates.proofs.InsertLaws.{leaf-alone, leaf-over-lower, leaf-under-upper, leaf-between}
+use Rattle.updates.proofs.UpdateLaws.{leaf-alone, leaf-over-lower, leaf-under-upper, leaf-between}
 use borrow.Author.Needs.{needs}
 use Rattle.updates.proofs.inserts.leaf_fields.Statement.{statement}
 use Rattle.updates.proofs.inserts.leaf_fields.Tie as tie
-use Rattle.updates.proofs.inserts.leaf_fields.Reads as reads
-use Rattle.updates.proofs.inserts.leaf_fields.Lts as lts
-use Rattle.updates.proofs.renewals.fields_by.Reads as fields-by-reads
 
 cast-fields-by : tie.Need-cast-fields-by
 cast-fields-by c = search needs

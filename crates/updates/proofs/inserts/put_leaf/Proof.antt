@@ -2,10 +2,6 @@
 use borrow.Author.Needs.{needs}
 use Rattle.updates.proofs.inserts.put_leaf.Statement.{statement}
 use Rattle.updates.proofs.inserts.put_leaf.Tie as tie
-use Rattle.updates.proofs.inserts.put_leaf.Reads as reads
-use Rattle.updates.proofs.inserts.put_leaf.Lts as lts
-use Rattle.updates.proofs.inserts.leaf_fields.Reads as leaf-fields-reads
-use Rattle.words.proofs.total.put_row.Reads as put-row-reads
 
 leaf-fields-requires : tie.Need-leaf-fields-requires
 leaf-fields-requires c κs = search needs

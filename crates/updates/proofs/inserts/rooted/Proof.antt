@@ -2,10 +2,6 @@
 use borrow.Author.Needs.{needs}
 use Rattle.updates.proofs.inserts.rooted.Statement.{statement}
 use Rattle.updates.proofs.inserts.rooted.Tie as tie
-use Rattle.updates.proofs.inserts.rooted.Reads as reads
-use Rattle.updates.proofs.inserts.rooted.Lts as lts
-use Rattle.updates.proofs.slots.set_root_place.Reads as set-root-place-reads
-use Rattle.words.proofs.total.set_word.Reads as set-word-reads
 
 set-word-requires : tie.Need-set-word-requires
 set-word-requires c κs = search needs

@@ -1,5 +1,5 @@
--- `updates::renewals::least_from` meets its contract. Each return is a step of the definition. The measure is the depth
--- left.
+-- `updates::renewals::least_from` meets its contract. Each return is a step of the definition.
+-- The measure is the depth left.
 use borrow.Author.Needs.{needs}
 use Prim.Native.Nat.{ℕ, _<_}
 use borrow.Fn.Kinds.{In}

@@ -3,9 +3,6 @@ use Rattle.updates.proofs.RenewalLaws.{place-of-compared}
 use borrow.Author.Needs.{needs}
 use Rattle.updates.proofs.renewals.difference_place.Statement.{statement}
 use Rattle.updates.proofs.renewals.difference_place.Tie as tie
-use Rattle.updates.proofs.renewals.difference_place.Reads as reads
-use Rattle.updates.proofs.renewals.difference_place.Lts as lts
-use Rattle.compares.proofs.compare.Reads as compare-reads
 
 compare-requires : tie.Need-compare-requires
 compare-requires c κs = search needs

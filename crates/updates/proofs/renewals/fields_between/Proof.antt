@@ -3,12 +3,6 @@ use Rattle.updates.proofs.RenewalLaws.{fields-by-differences}
 use borrow.Author.Needs.{needs}
 use Rattle.updates.proofs.renewals.fields_between.Statement.{statement}
 use Rattle.updates.proofs.renewals.fields_between.Tie as tie
-use Rattle.updates.proofs.renewals.fields_between.Reads as reads
-use Rattle.updates.proofs.renewals.fields_between.Lts as lts
-use Rattle.updates.proofs.renewals.difference_above.Reads as difference-above-reads
-use Rattle.updates.proofs.renewals.difference_below.Reads as difference-below-reads
-use Rattle.updates.proofs.renewals.fields_by.Reads as fields-by-reads
-use Rattle.updates.proofs.renewals.label_in.Reads as label-in-reads
 
 label-in-requires : tie.Need-label-in-requires
 label-in-requires c κs = search needs
@@ -23,14 +17,7 @@ fields-by-requires : tie.Need-fields-by-requires
 fields-by-requires c κs = search needs
 
 returns : tie.Need-returns
-returns c =
-    let upper = c .before in
-    let lower = upper .before in
-    let read = lower .before in
-    let at-entry = read .before .before .before .args in
-    fields-by-differences (at-entry .limits) (at-entry .table .now) (at-entry .store .now) (at-entry .k) (at-entry .below)
-    (at-entry .above) _ _ _ _ (read .label-in .ensures .0) (lower .difference-below .ensures)
-    (upper .difference-above .ensures) (c .fields-by .ensures .0) (c .fields-by .ensures .1)
+returns c = search fields-by-differences
 
 pub fields-between-spec : {M : Type 1} → statement M
 fields-between-spec =

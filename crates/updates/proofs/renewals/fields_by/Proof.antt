@@ -1,11 +1,8 @@
 -- `updates::renewals::fields_by` meets its contract: a tie goes to the predecessor.
 use native.Mathlib.Omega.{arith}
 use borrow.Author.Tests.{le-leb, lt-leb}
-use borrow.Author.Needs.{needs}
 use Rattle.updates.proofs.renewals.fields_by.Statement.{statement}
 use Rattle.updates.proofs.renewals.fields_by.Tie as tie
-use Rattle.updates.proofs.renewals.fields_by.Reads as reads
-use Rattle.updates.proofs.renewals.fields_by.Lts as lts
 
 returns : tie.Need-returns
 returns c = (omega arith, simp (le-leb _ _ (c .if1 .taken)))

@@ -1,16 +1,10 @@
 -- `updates::renewals::label_in` meets its contract: the label is read by its length word.
-use native.Mathlib.Omega.{arith}
 use mathlib.Core.Path.{ap, _∙_}
-use lib.ListN.{length, take, length-take}
-use Rattle.tables.specs.Words.{partStart, labelAt}
+use Rattle.tables.specs.Words.{labelAt}
 use Rattle.updates.proofs.Bytes.{length-of-label}
 use borrow.Author.Needs.{needs}
 use Rattle.updates.proofs.renewals.label_in.Statement.{statement}
 use Rattle.updates.proofs.renewals.label_in.Tie as tie
-use Rattle.updates.proofs.renewals.label_in.Reads as reads
-use Rattle.updates.proofs.renewals.label_in.Lts as lts
-use Rattle.updates.proofs.renewals.label_of.Reads as label-of-reads
-use Rattle.words.proofs.total.row_of.Reads as row-of-reads
 
 row-of-requires : tie.Need-row-of-requires
 row-of-requires c κs = search needs

@@ -3,10 +3,6 @@ use Rattle.updates.proofs.Bytes.{label-clipped}
 use borrow.Author.Needs.{needs}
 use Rattle.updates.proofs.renewals.label_of.Statement.{statement}
 use Rattle.updates.proofs.renewals.label_of.Tie as tie
-use Rattle.updates.proofs.renewals.label_of.Reads as reads
-use Rattle.updates.proofs.renewals.label_of.Lts as lts
-use Rattle.updates.proofs.renewals.clipped.Reads as clipped-reads
-use Rattle.updates.proofs.slots.part_start.Reads as part-start-reads
 
 part-start-requires : tie.Need-part-start-requires
 part-start-requires c κs = search needs

@@ -3,12 +3,6 @@ use Rattle.updates.proofs.RenewalLaws.{renewed-by-fields}
 use borrow.Author.Needs.{needs}
 use Rattle.updates.proofs.renewals.renew.Statement.{statement}
 use Rattle.updates.proofs.renewals.renew.Tie as tie
-use Rattle.updates.proofs.renewals.renew.Reads as reads
-use Rattle.updates.proofs.renewals.renew.Lts as lts
-use Rattle.turns.proofs.rows.prefixed.Reads as prefixed-reads
-use Rattle.updates.proofs.renewals.fields_between.Reads as fields-between-reads
-use Rattle.words.proofs.total.put_row.Reads as put-row-reads
-use Rattle.words.proofs.total.row_of.Reads as row-of-reads
 
 fields-between-requires : tie.Need-fields-between-requires
 fields-between-requires c κs = search needs
@@ -32,7 +26,8 @@ returns c =
     let read = new .before .before in
     let fields = read .before .before in
     let at-entry = fields .before .before .before .before in
-    renewed-by-fields (at-entry .args .limits) (at-entry .args .table .now) (at-entry .args .store .now) (at-entry .args .k)
+    renewed-by-fields (at-entry .args .limits) (at-entry .args .table .now) (at-entry .args .store .now)
+    (at-entry .args .k)
     (at-entry .args .below) (at-entry .args .above) _ _ _ _ (fields .fields-between .ensures) (read .row-of .ensures)
     (new .prefixed .ensures) (put .put-row .ensures) (at-entry .pre)
 

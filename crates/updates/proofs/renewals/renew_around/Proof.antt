@@ -3,11 +3,6 @@ use Rattle.updates.proofs.SpineLaws.{around-right, around-left, around-
 use borrow.Author.Needs.{needs}
 use Rattle.updates.proofs.renewals.renew_around.Statement.{statement}
 use Rattle.updates.proofs.renewals.renew_around.Tie as tie
-use Rattle.updates.proofs.renewals.renew_around.Reads as reads
-use Rattle.updates.proofs.renewals.renew_around.Lts as lts
-use Rattle.updates.proofs.renewals.renew_son.Reads as renew-son-reads
-use Rattle.updates.proofs.renewals.renew_two.Reads as renew-two-reads
-use Rattle.words.proofs.total.row_of.Reads as row-of-reads
 
 row-of-requires : tie.Need-row-of-requires
 row-of-requires c κs = search needs

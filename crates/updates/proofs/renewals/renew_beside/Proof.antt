@@ -2,9 +2,6 @@
 use borrow.Author.Needs.{needs}
 use Rattle.updates.proofs.renewals.renew_beside.Statement.{statement}
 use Rattle.updates.proofs.renewals.renew_beside.Tie as tie
-use Rattle.updates.proofs.renewals.renew_beside.Reads as reads
-use Rattle.updates.proofs.renewals.renew_beside.Lts as lts
-use Rattle.updates.proofs.renewals.renew.Reads as renew-reads
 
 renew-requires : tie.Need-renew-requires
 renew-requires c κs = search needs

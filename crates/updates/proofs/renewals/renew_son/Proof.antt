@@ -3,9 +3,6 @@ use Rattle.updates.proofs.RenewalLaws.{renewed-no-son, renewed-only-son
 use borrow.Author.Needs.{needs}
 use Rattle.updates.proofs.renewals.renew_son.Statement.{statement}
 use Rattle.updates.proofs.renewals.renew_son.Tie as tie
-use Rattle.updates.proofs.renewals.renew_son.Reads as reads
-use Rattle.updates.proofs.renewals.renew_son.Lts as lts
-use Rattle.updates.proofs.renewals.renew.Reads as renew-reads
 
 renew-requires : tie.Need-renew-requires
 renew-requires c κs = search needs
@@ -14,12 +11,7 @@ same-length : tie.Need-same-length
 same-length c = search needs
 
 returns : tie.Need-returns
-returns c =
-    let renewed = c .before .before in
-    let some = renewed .before .before in
-    let at-entry = some .before .before .before .args in
-    renewed-only-son (at-entry .limits) (at-entry .table .now) (at-entry .store .now) (at-entry .son) (at-entry .below)
-    (at-entry .above) _ (some .if1 .taken) (renewed .renew .ensures .0)
+returns c = search renewed-only-son
 
 returns-2 : tie.Need-returns-2
 returns-2 c = search renewed-no-son

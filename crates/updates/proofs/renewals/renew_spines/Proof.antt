@@ -3,10 +3,6 @@ use Rattle.updates.proofs.SpineLaws.{spines-in-turn}
 use borrow.Author.Needs.{needs}
 use Rattle.updates.proofs.renewals.renew_spines.Statement.{statement}
 use Rattle.updates.proofs.renewals.renew_spines.Tie as tie
-use Rattle.updates.proofs.renewals.renew_spines.Reads as reads
-use Rattle.updates.proofs.renewals.renew_spines.Lts as lts
-use Rattle.updates.proofs.renewals.renew_spine.Reads as renew-spine-reads
-use Rattle.words.proofs.total.row_of.Reads as row-of-reads
 
 row-of-requires : tie.Need-row-of-requires
 row-of-requires c κs = search needs
@@ -21,14 +17,7 @@ same-length : tie.Need-same-length
 same-length c = search needs
 
 returns : tie.Need-returns
-returns c =
-    let right = c .before .before in
-    let left = right .before .before .before .before in
-    let read = left .before .before in
-    let at-entry = read .before .before .before .before .args in
-    spines-in-turn (at-entry .limits) (at-entry .table .now) (at-entry .store .now) (at-entry .c) (at-entry .below)
-    (at-entry .above) _ (read .row-of .ensures) (at-entry .m) _ _ (left .renew-spine .ensures .0)
-    (right .renew-spine2 .ensures .0)
+returns c = search spines-in-turn
 
 pub renew-spines-spec : {M : Type 1} → statement M
 renew-spines-spec =

@@ -4,12 +4,6 @@ use Rattle.updates.specs.Renewals.{fieldsBetween, leastFrom, renewedSpin
 use borrow.Author.Needs.{needs}
 use Rattle.updates.proofs.renewals.renew_two.Statement.{statement}
 use Rattle.updates.proofs.renewals.renew_two.Tie as tie
-use Rattle.updates.proofs.renewals.renew_two.Reads as reads
-use Rattle.updates.proofs.renewals.renew_two.Lts as lts
-use Rattle.updates.proofs.renewals.fields_between.Reads as fields-between-reads
-use Rattle.updates.proofs.renewals.least_from.Reads as least-from-reads
-use Rattle.updates.proofs.renewals.renew_spines.Reads as renew-spines-reads
-use Rattle.words.proofs.total.row_of.Reads as row-of-reads
 
 row-of-requires : tie.Need-row-of-requires
 row-of-requires c κs = search needs
@@ -36,7 +30,8 @@ returns c =
     let limits = at-entry .limits in
     let table = at-entry .table .now in
     let store = at-entry .store .now in
-    let of-least = least .least-from .ensures ∙ ap (λ r. leastFrom (limits .depth) table (r .right)) (read .row-of .ensures) in (
+    let of-least =
+    least .least-from .ensures ∙ ap (λ r. leastFrom (limits .depth) table (r .right)) (read .row-of .ensures) in (
       fields .fields-between .ensures
           ∙ ap (λ m. fieldsBetween limits table store m (at-entry .below) (at-entry .above)) of-least,
       renewed .renew-spines .ensures

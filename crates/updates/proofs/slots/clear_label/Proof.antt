@@ -2,24 +2,20 @@
 -- The invariant: the zeros that are left, set, give the store with the whole part cleared. The measure: the bytes left.
 use native.Mathlib.Nat.{sub-zero}
 use borrow.Author.Needs.{needs}
-use native.Mathlib.Omega.{arith}
-use Prim.Native.Nat.{_+_, _-_, _≤_}
-use mathlib.Core.Path.{_≡_, sym, ap, _∙_}
-use lib.ListN.{length, replicate, length-set}
+use Prim.Native.Nat.{_+_, _-_}
+use mathlib.Core.Path.{_≡_, ap, _∙_}
+use lib.ListN.{length, replicate}
 use lib.Seq.{sets}
 use Rattle.updates.specs.Slots.{withoutLabel}
 use Rattle.updates.proofs.Bytes.{clear-next, clear-all}
 use native.Mathlib.Nat.{add-zero}
 use Rattle.updates.proofs.slots.clear_label.Statement.{statement}
 use Rattle.updates.proofs.slots.clear_label.Tie as tie
-use Rattle.updates.proofs.slots.clear_label.Reads as reads
-use Rattle.updates.proofs.slots.clear_label.Lts as lts
-use Rattle.updates.proofs.slots.part_start.Reads as part-start-reads
-use Rattle.updates.proofs.slots.set_byte.Reads as set-byte-reads
 
 abbrev Inv-loop : tie.InvT-loop
 Inv-loop limits store₀ slot start i₀ store i =
-    (length store ≡ length store₀) × (sets store (start + i) (replicate (limits .width - i) 0) ≡ sets store₀ start (replicate (limits .width) 0))
+    (length store ≡ length store₀)
+    × (sets store (start + i) (replicate (limits .width - i) 0) ≡ sets store₀ start (replicate (limits .width) 0))
 
 abbrev μ-loop : tie.MeasureT-loop
 μ-loop limits store₀ slot start i₀ store i = limits .width - i

@@ -3,11 +3,6 @@ use Rattle.updates.specs.Slots.{afterFreed}
 use borrow.Author.Needs.{needs}
 use Rattle.updates.proofs.slots.free_slot.Statement.{statement}
 use Rattle.updates.proofs.slots.free_slot.Tie as tie
-use Rattle.updates.proofs.slots.free_slot.Reads as reads
-use Rattle.updates.proofs.slots.free_slot.Lts as lts
-use Rattle.words.proofs.total.put_row.Reads as put-row-reads
-use Rattle.words.proofs.total.set_word.Reads as set-word-reads
-use Rattle.words.proofs.total.word.Reads as word-reads
 
 word-requires : tie.Need-word-requires
 word-requires c κs = search needs

@@ -6,8 +6,6 @@ use native.Mathlib.Omega.{arith}
 use borrow.Author.Needs.{needs}
 use Rattle.updates.proofs.slots.part_start.Statement.{statement}
 use Rattle.updates.proofs.slots.part_start.Tie as tie
-use Rattle.updates.proofs.slots.part_start.Reads as reads
-use Rattle.updates.proofs.slots.part_start.Lts as lts
 
 returns : tie.Need-returns
 returns c =

@@ -5,8 +5,6 @@ use lib.Seq.{set-out}
 use borrow.Author.Needs.{needs}
 use Rattle.updates.proofs.slots.set_byte.Statement.{statement}
 use Rattle.updates.proofs.slots.set_byte.Tie as tie
-use Rattle.updates.proofs.slots.set_byte.Reads as reads
-use Rattle.updates.proofs.slots.set_byte.Lts as lts
 
 sub-if2 : tie.Need-sub-if2
 sub-if2 c = search needs

@@ -3,9 +3,6 @@ use Rattle.updates.specs.Slots.{withCount}
 use borrow.Author.Needs.{needs}
 use Rattle.updates.proofs.slots.set_count.Statement.{statement}
 use Rattle.updates.proofs.slots.set_count.Tie as tie
-use Rattle.updates.proofs.slots.set_count.Reads as reads
-use Rattle.updates.proofs.slots.set_count.Lts as lts
-use Rattle.words.proofs.total.set_word.Reads as set-word-reads
 
 set-word-requires : tie.Need-set-word-requires
 set-word-requires c κs = search needs

@@ -3,22 +3,19 @@
 use borrow.Author.Needs.{needs}
 use native.Mathlib.Omega.{arith}
 use Prim.Native.Nat.{_+_, _-_, _≤_}
-use mathlib.Core.Path.{_≡_, sym, ap, _∙_}
-use lib.ListN.{length, drop, length-set}
+use mathlib.Core.Path.{_≡_, ap, _∙_}
+use lib.ListN.{length, drop}
 use lib.Seq.{sets}
 use Rattle.updates.specs.Slots.{withLabel}
 use Rattle.updates.proofs.Bytes.{set-next, set-all}
 use native.Mathlib.Nat.{add-zero}
 use Rattle.updates.proofs.slots.set_label.Statement.{statement}
 use Rattle.updates.proofs.slots.set_label.Tie as tie
-use Rattle.updates.proofs.slots.set_label.Reads as reads
-use Rattle.updates.proofs.slots.set_label.Lts as lts
-use Rattle.updates.proofs.slots.part_start.Reads as part-start-reads
-use Rattle.updates.proofs.slots.set_byte.Reads as set-byte-reads
 
 abbrev Inv-loop : tie.InvT-loop
 Inv-loop store₀ slot label start i₀ store i =
-    (i ≤ length label) × ((length store ≡ length store₀) × (sets store (start + i) (drop i label) ≡ sets store₀ start label))
+    (i ≤ length label) × ((length store ≡ length store₀)
+    × (sets store (start + i) (drop i label) ≡ sets store₀ start label))
 
 abbrev μ-loop : tie.MeasureT-loop
 μ-loop store₀ slot label start i₀ store i = length label - i

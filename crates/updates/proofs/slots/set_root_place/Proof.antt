@@ -3,12 +3,6 @@ use Rattle.updates.proofs.SlotLaws.{no-root-placed, root-placed}
 use borrow.Author.Needs.{needs}
 use Rattle.updates.proofs.slots.set_root_place.Statement.{statement}
 use Rattle.updates.proofs.slots.set_root_place.Tie as tie
-use Rattle.updates.proofs.slots.set_root_place.Reads as reads
-use Rattle.updates.proofs.slots.set_root_place.Lts as lts
-use Rattle.turns.proofs.rows.prefixed.Reads as prefixed-reads
-use Rattle.words.proofs.total.put_row.Reads as put-row-reads
-use Rattle.words.proofs.total.row_of.Reads as row-of-reads
-use Rattle.words.proofs.total.word.Reads as word-reads
 
 word-requires : tie.Need-word-requires
 word-requires c κs = search needs

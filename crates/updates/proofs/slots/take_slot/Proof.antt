@@ -6,11 +6,6 @@ use lib.ListN.{getD}
 use borrow.Author.Needs.{needs}
 use Rattle.updates.proofs.slots.take_slot.Statement.{statement}
 use Rattle.updates.proofs.slots.take_slot.Tie as tie
-use Rattle.updates.proofs.slots.take_slot.Reads as reads
-use Rattle.updates.proofs.slots.take_slot.Lts as lts
-use Rattle.updates.proofs.slots.pop_free.Reads as pop-free-reads
-use Rattle.words.proofs.total.set_word.Reads as set-word-reads
-use Rattle.words.proofs.total.word.Reads as word-reads
 
 pop-free-requires : tie.Need-pop-free-requires
 pop-free-requires c κs = search needs
@@ -28,7 +23,8 @@ add-mark : tie.Need-add-mark
 add-mark c =
     let told = c .before .before in
     let free = told .before .before .before .before in
-    let same = popped-as-it-was _ _ (free .pop-free .ensures .0) (free .pop-free .ensures .1) (told .enum-told .given .1) in
+    let same = popped-as-it-was _ _ (free .pop-free .ensures .0) (free .pop-free .ensures .1)
+    (told .enum-told .given .1) in
     omega (arith, ap (λ t. getD t 3 0) same)
 
 set-word-requires : tie.Need-set-word-requires
