@@ -1,0 +1,55 @@
+/* The search of the index in plain C: the same steps, the same refusals and the same counts. */
+#include "bench.h"
+
+static uint64_t refused(uint64_t number)
+{
+    return pack(REFUSED, 0, 0, number, 0);
+}
+
+uint64_t digital_search(const uint16_t *table, size_t words, const uint8_t *store, size_t bytes, const uint8_t *label,
+                        size_t n)
+{
+    if (words != WORDS)
+        return refused(1);
+    if (bytes != BYTES)
+        return refused(2);
+    if (n == 0)
+        return refused(3);
+    if (n > WIDTH)
+        return refused(4);
+    size_t p = 1, s = 1, visits = 0, places = 0;
+    size_t link = table[0];
+    while (link != 0) {
+        if (visits >= DEPTH || link > SLOTS)
+            return refused(5);
+        const uint16_t *row = table + 4 + 8 * (link - 1);
+        size_t d = row[2], side = row[3], len = row[5];
+        if (len == 0 || len > WIDTH || d == 0 || d > len + 1 || side > 1)
+            return refused(5);
+        visits++;
+        size_t reached = side == 0 ? p : s;
+        if (reached != d) {
+            link = row[(reached < d) == (side == 0)];
+            continue;
+        }
+        const uint8_t *held = store + WIDTH * (link - 1);
+        size_t end = n < len ? n : len;
+        size_t i = d - 1;
+        while (i < end && label[i] == held[i])
+            i++;
+        places += i + 2 - d;
+        int larger;
+        if (i < end)
+            larger = label[i] > held[i];
+        else if (n == len)
+            return pack(FOUND, places, visits, link, row[6]);
+        else
+            larger = n > len;
+        if (larger)
+            p = i + 1;
+        else
+            s = i + 1;
+        link = row[larger];
+    }
+    return pack(ABSENT, places, visits, 0, 0);
+}
