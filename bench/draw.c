@@ -3,7 +3,7 @@
 #include <stdio.h>
 
 /* Prefixes of 0, 4 and on to 56 bytes; the picture's frame; the most places drawn. */
-enum { STEPS = 15, LEFT = 60, TOP = 40, WIDE = 520, HIGH = 300, MOST = 600 };
+enum { STEPS = 15, LEFT = 60, TOP = 40, WIDE = 520, HIGH = 300, MOST = 500 };
 
 static double x_of(int shared)
 {
@@ -62,7 +62,7 @@ int main(void)
         }
     }
     frame();
-    line(digital, "#0b6e4f", "digital access (this index)", -10);
+    line(digital, "#0b6e4f", "digital access (this index)", -24);
     line(whole, "#b3431e", "whole labels compared", 24);
     printf("</svg>\n");
     return 0;
