@@ -1,6 +1,5 @@
 // The hub's label index: every call takes the lent memory at any length and with any content, and refuses by the
-// paper's
-// numbers. A refused call has changed nothing.
+// paper's numbers. A refused call has changed nothing.
 use types::DoneAnswer;
 use types::ListAnswer;
 use types::SearchAnswer;

@@ -1,6 +1,5 @@
--- The side laws: what is observed of a node does not depend on the side it is built from. Later lemmas cite them, and
--- only
--- settled-on of Rotations splits on the side again.
+-- The side laws: what is observed of a node does not depend on the side it is built from. Later lemmas cite them,
+-- and only settled-on of Rotations splits on the side again.
 -- height-from, size-from, balanced-from: height, size and balance of a node built from a side.
 -- kept-from, sons-from: the height rule is kept at a node built from a side exactly where its two subtrees may be sons.
 -- node-from: a node is built from any side by its subtrees on that side and on the other.

@@ -10,8 +10,7 @@ use Rattle.types.specs.declared.ListAnswer as list
 
 -- "A search answer is one of found with slot, value and both counts, absent with both counts, or a refusal; a delete or
 -- insert gives the slot and its search's counts"; layout, the check and the view's first call "answer only that they
--- are
--- done"; a listing "gives their number"
+-- are done"; a listing "gives their number"
 pub data Answer : Type 0 where
   found : (slot value visits places : ℕ) → Answer
   absent : (visits places : ℕ) → Answer
