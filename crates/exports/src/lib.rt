@@ -1,33 +1,13 @@
 // The label index for tests and benchmarks in other languages: numbers and slices in, the answer packed in one number.
 // A slice passes as its pointer and its length. Nothing is asked of the callers: each call answers as the index does.
 use types::DoneAnswer;
-use types::Refusal;
 use types::SearchAnswer;
 use types::UpdateAnswer;
 ghost use mathlib.Core.Path.{_≡_};
 ghost use Rattle.types.specs.Sizes.{hub};
-ghost use Rattle.types.specs.Answers.{numberOf, searchSays, updateSays, doneSays};
+ghost use Rattle.types.specs.Answers.{searchSays, updateSays, doneSays};
 ghost use Rattle.tables.specs.Outcomes.{layoutOutcome, searchOutcome, insertOutcome, deleteOutcome, checkOutcome};
 ghost use Rattle.exports.specs.Packed.{parts, packed, Packs};
-
-// A refusal's number.
-fn number(refusal: Refusal) -> usize
-    ensures { λ r. ⌜ r ≡ numberOf refusal ⌝ }
-{
-    match refusal {
-        Refusal::WrongTable => 1,
-        Refusal::WrongStore => 2,
-        Refusal::EmptyLabel => 3,
-        Refusal::LongLabel => 4,
-        Refusal::BrokenWalk => 5,
-        Refusal::NotSound => 6,
-        Refusal::AlreadyHeld => 7,
-        Refusal::NotHeld => 8,
-        Refusal::Full => 9,
-        Refusal::ShortList => 10,
-        Refusal::WrongSlot => 11,
-    }
-}
 
 // The five numbers of an answer in one, each cut to its bits.
 fn packed(kind: usize, places: usize, visits: usize, one: usize, other: usize) -> usize
@@ -51,7 +31,7 @@ fn packed_search(said: SearchAnswer) -> usize
             places,
         } => packed(1, places, visits, slot, value as usize),
         SearchAnswer::Absent { visits, places } => packed(2, places, visits, 0, 0),
-        SearchAnswer::Refused(refusal) => packed(0, 0, 0, number(refusal), 0),
+        SearchAnswer::Refused(refusal) => packed(0, 0, 0, types::number_of(refusal), 0),
     }
 }
 
@@ -65,7 +45,7 @@ fn packed_update(said: UpdateAnswer) -> usize
             visits,
             places,
         } => packed(3, places, visits, slot, 0),
-        UpdateAnswer::Refused(refusal) => packed(0, 0, 0, number(refusal), 0),
+        UpdateAnswer::Refused(refusal) => packed(0, 0, 0, types::number_of(refusal), 0),
     }
 }
 
@@ -75,7 +55,7 @@ fn packed_done(said: DoneAnswer) -> usize
 {
     match said {
         DoneAnswer::Done => packed(4, 0, 0, 0, 0),
-        DoneAnswer::Refused(refusal) => packed(0, 0, 0, number(refusal), 0),
+        DoneAnswer::Refused(refusal) => packed(0, 0, 0, types::number_of(refusal), 0),
     }
 }
 

@@ -81,27 +81,8 @@ fn put_refusal(refusal: Refusal, out: &mut [u8]) -> usize
     ensures { λ r. ⌜ Puts (now (out .entry)) 0 (textOf (refused (numberOf refusal))) 96 (now (out .exit)) r ⌝ }
 {
     let first = put(out, 0, b"no");
-    let second = put_number(out, first, number_of(refusal));
+    let second = put_number(out, first, types::number_of(refusal));
     put(out, second, b"\n")
-}
-
-// The number of a refusal.
-fn number_of(refusal: Refusal) -> usize
-    ensures { λ r. ⌜ r ≡ numberOf refusal ⌝ }
-{
-    match refusal {
-        Refusal::WrongTable => 1,
-        Refusal::WrongStore => 2,
-        Refusal::EmptyLabel => 3,
-        Refusal::LongLabel => 4,
-        Refusal::BrokenWalk => 5,
-        Refusal::NotSound => 6,
-        Refusal::AlreadyHeld => 7,
-        Refusal::NotHeld => 8,
-        Refusal::Full => 9,
-        Refusal::ShortList => 10,
-        Refusal::WrongSlot => 11,
-    }
 }
 
 // A number, both counts of a search and the line's end, put at a place; gives the place after them.

@@ -1,6 +1,7 @@
 // The values that the calls of the label index take and give.
 ghost use mathlib.Core.Path.{_≡_};
 ghost use Rattle.types.specs.Sizes.{hub};
+ghost use Rattle.types.specs.Answers.{numberOf};
 
 // The sizes of an index: slots of the table, bytes of a label, nodes on a path from the root.
 pub struct Limits {
@@ -34,6 +35,25 @@ pub enum Refusal {
     NotHeld,
     Full,
     ShortList,
+}
+
+// The number of a refusal.
+pub fn number_of(refusal: Refusal) -> usize
+    ensures { λ r. ⌜ r ≡ numberOf refusal ⌝ }
+{
+    match refusal {
+        Refusal::WrongTable => 1,
+        Refusal::WrongStore => 2,
+        Refusal::EmptyLabel => 3,
+        Refusal::LongLabel => 4,
+        Refusal::BrokenWalk => 5,
+        Refusal::NotSound => 6,
+        Refusal::AlreadyHeld => 7,
+        Refusal::NotHeld => 8,
+        Refusal::Full => 9,
+        Refusal::ShortList => 10,
+        Refusal::WrongSlot => 11,
+    }
 }
 
 // What a search says.

@@ -13,8 +13,8 @@ packed-requires c κs = search needs
 enum-known-said : tie.Need-enum-known-said
 enum-known-said c = search needs
 
-number-requires : tie.Need-number-requires
-number-requires c κs = search needs
+number-of-requires : tie.Need-number-of-requires
+number-of-requires c κs = search needs
 
 packed-requires-2 : tie.Need-packed-requires-2
 packed-requires-2 c κs = search needs
@@ -32,7 +32,7 @@ packed-done-spec =
     enum-told
     packed-requires
     enum-known-said
-    number-requires
+    number-of-requires
     packed-requires-2
     returns
     returns-2)

@@ -22,8 +22,8 @@ packed-requires-2 c κs = search needs
 enum-known-said-3 : tie.Need-enum-known-said-3
 enum-known-said-3 c = search needs
 
-number-requires : tie.Need-number-requires
-number-requires c κs = search needs
+number-of-requires : tie.Need-number-of-requires
+number-of-requires c κs = search needs
 
 packed-requires-3 : tie.Need-packed-requires-3
 packed-requires-3 c κs = search needs
@@ -47,7 +47,7 @@ packed-search-spec =
     enum-known-said-2
     packed-requires-2
     enum-known-said-3
-    number-requires
+    number-of-requires
     packed-requires-3
     returns
     returns-2

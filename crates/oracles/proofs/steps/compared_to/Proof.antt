@@ -1,0 +1,55 @@
+-- `oracles::steps::compared_to` is safe and ends. The loop's invariant: its counter is not below its start. The
+-- measure is what is left of the range. Assumes nothing.
+use Prim.Native.Nat.{_≤_, _-_}
+use borrow.Author.Needs.{needs}
+use Rattle.oracles.proofs.steps.compared_to.Statement.{statement}
+use Rattle.oracles.proofs.steps.compared_to.Tie as tie
+
+abbrev Inv-loop : tie.InvT-loop
+Inv-loop table store slot label from place₀ place = place₀ ≤ place
+
+abbrev μ-loop : tie.MeasureT-loop
+μ-loop table store slot label from place₀ place = 65 - place
+
+loop-holds : tie.Need-loop-holds Inv-loop μ-loop
+loop-holds c = search needs
+
+label-number-requires : tie.Need-label-number-requires Inv-loop μ-loop
+label-number-requires c κs = search needs
+
+returns : tie.Need-returns Inv-loop μ-loop
+returns c = search needs
+
+number-requires : tie.Need-number-requires Inv-loop μ-loop
+number-requires c κs = search needs
+
+returns-2 : tie.Need-returns-2 Inv-loop μ-loop
+returns-2 c = search needs
+
+add-place : tie.Need-add-place Inv-loop μ-loop
+add-place c = search needs
+
+loop-less : tie.Need-loop-less Inv-loop μ-loop
+loop-less c = search needs
+
+loop-again : tie.Need-loop-again Inv-loop μ-loop
+loop-again c = search needs
+
+returns-3 : tie.Need-returns-3 Inv-loop μ-loop
+returns-3 c = search needs
+
+pub compared-to-spec : {M : Type 1} → statement M
+compared-to-spec =
+    tie.close
+    (tie.spec
+    Inv-loop
+    μ-loop
+    loop-holds
+    label-number-requires
+    returns
+    number-requires
+    returns-2
+    add-place
+    loop-less
+    loop-again
+    returns-3)

@@ -1,0 +1,243 @@
+// Soundness: the tree is read level by level, each node tested against its two neighbours above it, heights are counted
+// from the last node back to the root, and what is left must be the free chain and slots that are all zero.
+use crate::memory;
+use crate::memory::Store;
+use crate::memory::Table;
+use plainmap::lists;
+use plainmap::lists::Lists;
+use std::num::wrapping_add_usize;
+
+// The lists: the nodes as they are met, and for each slot its neighbours above it, whether it was met, and its height.
+const QUEUE: usize = 0;
+
+const BEFORE: usize = 1;
+
+const AFTER: usize = 2;
+
+const MET: usize = 3;
+
+const HEIGHT: usize = 4;
+
+pub fn is_sound(table: &Table, store: &Store) -> bool {
+    let mut work = [0u16; 35397];
+    if memory::word(table, memory::MARK) > 512 {
+        return false;
+    }
+    let count = read_tree(table, &mut work);
+    if count != memory::word(table, memory::HELD) {
+        return false;
+    }
+    if count > 512 {
+        return false;
+    }
+    nodes_hold(table, store, &work, count)
+        && heights_hold(table, &mut work, count)
+        && chain_holds(table, store, &mut work, count)
+        && rest_is_zero(table, store)
+}
+
+// Reads the tree into the lists, and gives the number of its nodes; 513 where its links give none.
+fn read_tree(table: &Table, work: &mut Lists) -> usize {
+    let mut count = join(table, work, 0, memory::word(table, memory::ROOT), 0, 0);
+    for i in 0..512 {
+        if i < count {
+            let slot = lists::get(work, QUEUE, i);
+            count = join_sons(table, work, count, slot);
+        }
+    }
+    count
+}
+
+fn join_sons(table: &Table, work: &mut Lists, count: usize, slot: usize) -> usize {
+    let before = lists::get(work, BEFORE, slot);
+    let after = lists::get(work, AFTER, slot);
+    let n = join(
+        table,
+        work,
+        count,
+        memory::field(table, slot, memory::LEFT),
+        before,
+        slot,
+    );
+    join(
+        table,
+        work,
+        n,
+        memory::field(table, slot, memory::RIGHT),
+        slot,
+        after,
+    )
+}
+
+// Takes a link's node, with its neighbours, into the lists.
+fn join(
+    table: &Table,
+    work: &mut Lists,
+    count: usize,
+    link: usize,
+    before: usize,
+    after: usize,
+) -> usize {
+    if link == 0 {
+        return count;
+    }
+    if count > 511 {
+        return 513;
+    }
+    if link > memory::word(table, memory::MARK) {
+        return 513;
+    }
+    if lists::get(work, MET, link) > 0 {
+        return 513;
+    }
+    lists::put(work, QUEUE, count, link);
+    lists::put(work, BEFORE, link, before);
+    lists::put(work, AFTER, link, after);
+    lists::put(work, MET, link, 1);
+    count + 1
+}
+
+fn nodes_hold(table: &Table, store: &Store, work: &Lists, count: usize) -> bool {
+    for i in 0..count {
+        let slot = lists::get(work, QUEUE, i);
+        let before = lists::get(work, BEFORE, slot);
+        let after = lists::get(work, AFTER, slot);
+        if !node_holds(table, store, slot, before, after) {
+            return false;
+        }
+    }
+    true
+}
+
+fn node_holds(table: &Table, store: &Store, slot: usize, before: usize, after: usize) -> bool {
+    let len = memory::field(table, slot, memory::LENGTH);
+    if len == 0 || len > 64 {
+        return false;
+    }
+    if memory::field(table, slot, memory::SPARE) > 0 {
+        return false;
+    }
+    if !bytes_are_zero(store, slot, len) {
+        return false;
+    }
+    if before > 0 && !is_below(table, store, before, slot) {
+        return false;
+    }
+    if after > 0 && !is_below(table, store, slot, after) {
+        return false;
+    }
+    prefix_holds(
+        table,
+        slot,
+        difference(table, store, before, slot),
+        difference(table, store, slot, after),
+    )
+}
+
+// Whether a slot's place and side are those that its difference places with both neighbours give.
+fn prefix_holds(table: &Table, slot: usize, before: usize, after: usize) -> bool {
+    let mut place = before;
+    let mut side = 0usize;
+    if after > before {
+        place = after;
+        side = 1;
+    }
+    if place == 0 {
+        place = 1;
+    }
+    memory::field(table, slot, memory::PLACE) == place
+        && memory::field(table, slot, memory::SIDE) == side
+}
+
+// The first place where two slots' labels hold different numbers; 0 where there is none or a slot is missing.
+fn difference(table: &Table, store: &Store, one: usize, other: usize) -> usize {
+    if one == 0 || other == 0 {
+        return 0;
+    }
+    for place in 1..66 {
+        if memory::number(table, store, one, place) != memory::number(table, store, other, place) {
+            return place;
+        }
+    }
+    0
+}
+
+pub fn is_below(table: &Table, store: &Store, one: usize, other: usize) -> bool {
+    let place = difference(table, store, one, other);
+    memory::number(table, store, one, place) < memory::number(table, store, other, place)
+}
+
+// Counts the heights from the last node met to the root, each balance tested on the way.
+fn heights_hold(table: &Table, work: &mut Lists, count: usize) -> bool {
+    let mut i = count;
+    while i > 0 {
+        i -= 1;
+        let slot = lists::get(work, QUEUE, i);
+        if !height_holds(table, work, slot) {
+            return false;
+        }
+    }
+    true
+}
+
+fn height_holds(table: &Table, work: &mut Lists, slot: usize) -> bool {
+    let left = lists::get(work, HEIGHT, memory::field(table, slot, memory::LEFT));
+    let right = lists::get(work, HEIGHT, memory::field(table, slot, memory::RIGHT));
+    let balance = memory::field(table, slot, memory::BALANCE);
+    let mut height = left;
+    if right > left {
+        height = right;
+    }
+    lists::put(work, HEIGHT, slot, wrapping_add_usize(height, 1));
+    balance < 3 && wrapping_add_usize(left, balance) == wrapping_add_usize(right, 1)
+}
+
+// Whether the free chain holds the slots up to the high mark that no node has, each once, and then ends.
+fn chain_holds(table: &Table, store: &Store, work: &mut Lists, count: usize) -> bool {
+    let mut link = memory::word(table, memory::FREE);
+    let mark = memory::word(table, memory::MARK);
+    for i in count..mark {
+        if link > mark || lists::get(work, MET, link) > 0 {
+            return false;
+        }
+        if !slot_is_zero(table, store, link, memory::RIGHT) {
+            return false;
+        }
+        lists::put(work, MET, link, 1);
+        link = memory::field(table, link, memory::LEFT);
+    }
+    link == 0
+}
+
+fn rest_is_zero(table: &Table, store: &Store) -> bool {
+    let mark = memory::word(table, memory::MARK);
+    for slot in mark..512 {
+        if !slot_is_zero(table, store, slot + 1, memory::LEFT) {
+            return false;
+        }
+    }
+    true
+}
+
+// Whether a slot's words from one on, and its bytes, are 0.
+fn slot_is_zero(table: &Table, store: &Store, slot: usize, from: usize) -> bool {
+    if slot == 0 {
+        return false;
+    }
+    for j in from..8 {
+        if memory::field(table, slot, j) > 0 {
+            return false;
+        }
+    }
+    bytes_are_zero(store, slot, 0)
+}
+
+// Whether a slot's bytes from one on are 0.
+fn bytes_are_zero(store: &Store, slot: usize, from: usize) -> bool {
+    for j in from..64 {
+        if memory::byte(store, slot, j) > 0 {
+            return false;
+        }
+    }
+    true
+}

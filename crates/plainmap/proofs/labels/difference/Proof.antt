@@ -1,0 +1,51 @@
+-- `plainmap::labels::difference` is safe and ends. The loop's invariant: its counter stays within its range. The
+-- measure is what is left of the range. Assumes nothing.
+use Prim.Native.Nat.{_≤_, _-_}
+use borrow.Author.Needs.{needs}
+use Rattle.plainmap.proofs.labels.difference.Statement.{statement}
+use Rattle.plainmap.proofs.labels.difference.Tie as tie
+
+abbrev Inv-loop : tie.InvT-loop
+Inv-loop map slot label place₀ place = place ≤ 66
+
+abbrev μ-loop : tie.MeasureT-loop
+μ-loop map slot label place₀ place = 66 - place
+
+loop-holds : tie.Need-loop-holds Inv-loop μ-loop
+loop-holds c = search needs
+
+number-requires : tie.Need-number-requires Inv-loop μ-loop
+number-requires c κs = search needs
+
+label-number-requires : tie.Need-label-number-requires Inv-loop μ-loop
+label-number-requires c κs = search needs
+
+returns : tie.Need-returns Inv-loop μ-loop
+returns c = search needs
+
+add-place : tie.Need-add-place Inv-loop μ-loop
+add-place c = search needs
+
+loop-less : tie.Need-loop-less Inv-loop μ-loop
+loop-less c = search needs
+
+loop-again : tie.Need-loop-again Inv-loop μ-loop
+loop-again c = search needs
+
+returns-2 : tie.Need-returns-2 Inv-loop μ-loop
+returns-2 c = search needs
+
+pub difference-spec : {M : Type 1} → statement M
+difference-spec =
+    tie.close
+    (tie.spec
+    Inv-loop
+    μ-loop
+    loop-holds
+    number-requires
+    label-number-requires
+    returns
+    add-place
+    loop-less
+    loop-again
+    returns-2)

@@ -1,0 +1,63 @@
+-- `rounds::damaged::ascends` is safe and ends. The loop's invariant: its counter stays within its range. The measure
+-- is what is left of the range. Assumes nothing.
+use Prim.Native.Nat.{_≤_, _-_}
+use borrow.Author.Needs.{needs}
+use Rattle.rounds.proofs.damaged.ascends.Statement.{statement}
+use Rattle.rounds.proofs.damaged.ascends.Tie as tie
+
+abbrev Inv-loop : tie.InvT-loop
+Inv-loop table store list count before₀ i₀ before i = i ≤ 513
+
+abbrev μ-loop : tie.MeasureT-loop
+μ-loop table store list count before₀ i₀ before i = 513 - i
+
+loop-holds : tie.Need-loop-holds Inv-loop μ-loop
+loop-holds c = search needs
+
+mul-wide : tie.Need-mul-wide Inv-loop μ-loop
+mul-wide c = search needs
+
+element-copy-out-wide : tie.Need-element-copy-out-wide Inv-loop μ-loop
+element-copy-out-wide c = search needs
+
+wide-requires : tie.Need-wide-requires Inv-loop μ-loop
+wide-requires c κs = search needs
+
+returns : tie.Need-returns Inv-loop μ-loop
+returns c = search needs
+
+is-below-requires : tie.Need-is-below-requires Inv-loop μ-loop
+is-below-requires c κs = search needs
+
+returns-2 : tie.Need-returns-2 Inv-loop μ-loop
+returns-2 c = search needs
+
+add-i : tie.Need-add-i Inv-loop μ-loop
+add-i c = search needs
+
+loop-less : tie.Need-loop-less Inv-loop μ-loop
+loop-less c = search needs
+
+loop-again : tie.Need-loop-again Inv-loop μ-loop
+loop-again c = search needs
+
+returns-3 : tie.Need-returns-3 Inv-loop μ-loop
+returns-3 c = search needs
+
+pub ascends-spec : {M : Type 1} → statement M
+ascends-spec =
+    tie.close
+    (tie.spec
+    Inv-loop
+    μ-loop
+    loop-holds
+    mul-wide
+    element-copy-out-wide
+    wide-requires
+    returns
+    is-below-requires
+    returns-2
+    add-i
+    loop-less
+    loop-again
+    returns-3)

@@ -1,0 +1,25 @@
+-- `trials::damage::part` is safe and ends. A part has as many entries as were asked for. Assumes nothing.
+use native.Mathlib.Omega.{arith}
+use lib.ListN.{length-take}
+use borrow.Author.Needs.{needs}
+use Rattle.trials.proofs.damage.part.Statement.{statement}
+use Rattle.trials.proofs.damage.part.Tie as tie
+
+made-requires : tie.Need-made-requires
+made-requires c κs = search needs
+
+returns : tie.Need-returns
+returns c = search needs
+
+slice-aggregate-made : tie.Need-slice-aggregate-made
+slice-aggregate-made c = simp length-take (omega arith)
+
+made-requires-2 : tie.Need-made-requires-2
+made-requires-2 c κs = search needs
+
+returns-2 : tie.Need-returns-2
+returns-2 c = search needs
+
+pub part-spec : {M : Type 1} → statement M
+part-spec =
+    tie.close (tie.spec made-requires returns slice-aggregate-made made-requires-2 returns-2)

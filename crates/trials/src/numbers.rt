@@ -1,0 +1,38 @@
+// Numbers that look random, the same in every run.
+
+// Where every sequence starts.
+pub const SEED: u64 = 88172645463325252;
+
+// The next number of a sequence.
+pub fn next(seed: u64) -> u64 {
+    let a = seed ^ (seed << 13);
+    let b = a ^ (a >> 7);
+    b ^ (b << 17)
+}
+
+// A number below `n`, from one of the sequence.
+pub fn below(seed: u64, n: usize) -> usize {
+    if n == 0 {
+        return 0;
+    }
+    (seed >> 20) as usize % n
+}
+
+// A number that stands for two others.
+pub fn mixed(one: usize, other: usize) -> usize {
+    let seed = std::num::wrapping_add_u64((one as u64) << 20, other as u64);
+    (next(next(next(std::num::wrapping_add_u64(seed, SEED)))) >> 8) as usize
+}
+
+// A value for an insert.
+pub fn value(one: usize, other: usize) -> u16 {
+    (mixed(one, other) % 65536) as u16
+}
+
+// The number `step` further on a circle of `n`.
+pub fn stepped(k: usize, step: usize, n: usize) -> usize {
+    if n == 0 {
+        return 0;
+    }
+    std::num::wrapping_add_usize(k, step) % n
+}
