@@ -54,12 +54,13 @@ checkTree limits table store (suc left) zero below above = Sound 0 0
 checkTree limits table store (suc left) (suc k) below above =
     elim (ltb (limits .slots) (suc k)) [
       | true ↦ Unsound
-      | false ↦ elim (nodeFine limits table store (suc k) (belowIn limits table store below) (aboveIn limits table store above)) [
-        | true ↦ over (rowAt table (suc k) .balance)
-            (checkTree limits table store left (rowAt table (suc k) .left) below (suc k))
-            (checkTree limits table store left (rowAt table (suc k) .right) (suc k) above)
-        | false ↦ Unsound
-      ]
+      | false ↦ elim (nodeFine limits table store (suc k) (belowIn limits table store below)
+          (aboveIn limits table store above)) [
+            | true ↦ over (rowAt table (suc k) .balance)
+                (checkTree limits table store left (rowAt table (suc k) .left) below (suc k))
+                (checkTree limits table store left (rowAt table (suc k) .right) (suc k) above)
+            | false ↦ Unsound
+          ]
     ]
 
 -- the free chain from a link is exactly so many slots long, all up to the high mark

@@ -101,7 +101,9 @@ pub record Shown : Type 0 where
 -- All of it holds by computation.
 pub shown : Shown
 unfolding
-    after lastNumbers numberOf compareLabels compareFrom differencePlace rowAt partAt labelAt writtenTable writtenStore isBad searchSteps wordsAndBytes counted soundAs sound stateOf searchOutcome layoutOutcome updateOutcome
+    after lastNumbers numberOf compareLabels compareFrom differencePlace rowAt partAt labelAt writtenTable
+    writtenStore isBad searchSteps wordsAndBytes counted soundAs sound stateOf searchOutcome layoutOutcome
+    updateOutcome
 shown = record {
   none-held = refl;
   one-held = refl;

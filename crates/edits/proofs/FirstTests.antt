@@ -18,7 +18,8 @@ use Rattle.labels.specs.Labels.{Label}
 use Rattle.trees.specs.Plain as plain
 use Rattle.trees.specs.Plain.{Call}
 use Rattle.tables.specs.Sound.{sound}
-use Rattle.tables.specs.Outcomes.{Verdict, pass, refuse, line, Outcome, outcomeBy, updateOutcome, insertOutcome, deleteOutcome}
+use Rattle.tables.specs.Outcomes.{Verdict, pass, refuse, line, Outcome, outcomeBy}
+use Rattle.tables.specs.Outcomes.{updateOutcome, insertOutcome, deleteOutcome}
 use Rattle.views.specs.Given.{Gives}
 use Rattle.edits.specs.declared.Early.{Early}
 use Rattle.edits.specs.declared.Early.the-variants.{Pass, Refused}

@@ -45,6 +45,7 @@ can-insert limits table store x trace count ready fits read room =
     }
 
 -- From a sound table a label can be deleted.
-pub can-delete : (limits : Limits) (table store : List ℕ) (x : Label) → Ready limits table store x → RowsFit limits table
+pub can-delete : (limits : Limits) (table store : List ℕ) (x : Label)
+    → Ready limits table store x → RowsFit limits table
 can-delete limits table store x ready =
     rows-fit limits (ready .limits-fit) (record { table = table; store = store }) (ready .sound)

@@ -50,12 +50,14 @@ module _ (limits : Limits) (table store : List ℕ) (x : Label) (ready : Ready l
           → Way limits table store x (s .tree) (traced limits table store x)
       way-in-written on-table on-store =
           rw (on-table, on-store)
-          (way-of-trace limits (written limits s .table) (written limits s .store) x (s .tree) (root-of-written limits s)
+          (way-of-trace limits (written limits s .table) (written limits s .store) x (s .tree)
+          (root-of-written limits s)
           (written-represents limits s valid) (between-of-ascends (s .tree) (valid .ascending))
           (height-within limits (ready .limits-fit .deepest) s valid))
 
   inserts : (value : ℕ) → InsertLands limits Lent x value trace
-  inserts value = insert-lands limits (ready .limits-fit .deepest) x (ready .label) trace value Lent (ready .sound) traces
+  inserts value = insert-lands limits (ready .limits-fit .deepest) x (ready .label) trace value Lent
+      (ready .sound) traces
 
   deletes : DeleteLands limits Lent x trace
   deletes = delete-lands limits (ready .limits-fit .deepest) x (ready .label) trace Lent (ready .sound) traces

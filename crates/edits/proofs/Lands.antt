@@ -83,7 +83,8 @@ module _ (limits : Limits) (deepest : Deepest (limits .slots) (limits .depth)) (
     unfolding insertOutcome
     insert-settled value h result =
         update-outcome limits s deepest valid (plain.insert x value)
-        ∙ ap outcomeOf (step-of-fitting (limits .slots) (limits .width) (plain.insert x value) s (fits .some) (fits .short)
+        ∙ ap outcomeOf (step-of-fitting (limits .slots) (limits .width) (plain.insert x value) s
+        (fits .some) (fits .short)
         ∙ ap (λ (h : Held). afterHeld (limits .slots) (plain.insert x value) h s) result)
 
     -- So is a delete.
@@ -124,7 +125,8 @@ module _ (limits : Limits) (deepest : Deepest (limits .slots) (limits .depth)) (
             → insertOutcome limits Table Store x value ≡ record { answer = refused 9; memory = written limits s }
         on-full none room =
             insert-settled value absent (nothing none)
-            ∙ ap (λ b. outcomeOf (insertIfRoom b x value s)) (le-leb (limits .slots) (size (s .tree)) (omega (arith, count-of-written limits s)))
+            ∙ ap (λ b. outcomeOf (insertIfRoom b x value s))
+            (le-leb (limits .slots) (size (s .tree)) (omega (arith, count-of-written limits s)))
 
         on-new : trace .found ≡ 0 → labelsHeld Table < limits .slots
             → insertOutcome limits Table Store x value
@@ -147,7 +149,8 @@ module _ (limits : Limits) (deepest : Deepest (limits .slots) (limits .depth)) (
             leaves : written limits (newEntry x value (s .tree) (s .freed) (s .high) .state)
                 ≡ insertedMemory limits Table Store x value trace
             leaves =
-                sym (insert-written limits s x value trace deepest valid (fits .some) (fits .short) (nothing none) less way)
+                sym (insert-written limits s x value trace deepest valid (fits .some)
+                (fits .short) (nothing none) less way)
 
     -- A delete of a valid state written out lands so.
     deletes-written : DeleteLands limits (written limits s) x trace
@@ -173,13 +176,15 @@ module _ (limits : Limits) (deepest : Deepest (limits .slots) (limits .depth)) (
                   memory = deletedMemory limits Table Store trace;
                 }
             go absent result ends = absurd (some (ends .0))
-            go (found e) result ends = delete-settled (found e) result ∙ λ i. record { answer = says i; memory = leaves i }
+            go (found e) result ends =
+                delete-settled (found e) result ∙ λ i. record { answer = says i; memory = leaves i }
               where
                 says : updated (e .slot) (visitsOf Steps) (placesOf Steps)
                     ≡ updated (trace .found) (trace .visits) (trace .places)
                 says = rw (ends, way .visits, way .places)
 
-                leaves : written limits (record { tree = deleted x (s .tree); freed = e .slot ∷ s .freed; high = s .high })
+                leaves :
+                    written limits (record { tree = deleted x (s .tree); freed = e .slot ∷ s .freed; high = s .high })
                     ≡ deletedMemory limits Table Store trace
                 leaves = sym (delete-written limits s x e trace deepest valid result way)
 

@@ -65,9 +65,9 @@ fn insert_ready(
     if limits.slots <= held {
         return UpdateAnswer::Refused(Refusal::Full);
     }
-    let slot = updates::inserts::insert_entry(limits, table, store, label, value, trace);
+    let slot = updates::inserts::insert_entry(limits, table, store, label, value, trace) as usize;
     UpdateAnswer::Updated {
-        slot: slot as usize,
+        slot,
         visits: trace.visits,
         places: trace.places,
     }
@@ -85,8 +85,9 @@ fn delete_ready(limits: Limits, table: &mut [u16], store: &mut [u8], label: &[u8
         return UpdateAnswer::Refused(Refusal::NotHeld);
     }
     updates::deletes::delete_entry(limits, table, store, trace);
+    let slot = trace.found as usize;
     UpdateAnswer::Updated {
-        slot: trace.found as usize,
+        slot,
         visits: trace.visits,
         places: trace.places,
     }

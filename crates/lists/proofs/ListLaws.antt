@@ -84,7 +84,8 @@ fits-whole limits table fits words =
 
 -- a son's walk stays within the room: the left son's from the same position,
 -- the right son's from the one after the node's
-module _ (limits : Limits) (table : List ℕ) (left at : ℕ) (fits : ListFits limits table at left) (deep : left ≡ 0 → ⊥) where
+module _ (limits : Limits) (table : List ℕ) (left at : ℕ)
+    (fits : ListFits limits table at left) (deep : left ≡ 0 → ⊥) where
   halves : 2 ^ left ≡ 2 ^ (left - 1) + 2 ^ (left - 1)
   halves = let over : left ≡ suc (left - 1) = omega arith in ap (λ (n : ℕ). 2 ^ n) over ∙ two-pow-succ (left - 1)
 
@@ -116,7 +117,8 @@ module _ (limits : Limits) (table : List ℕ) (left link : ℕ) (row : Row)
   filled-by-node near put far =
       let xs = slotsFrom limits table (left - 1) (row .left) in
       let ys = slotsFrom limits table (left - 1) (row .right) in
-      let all : slotsFrom limits table left link ≡ xs ++ (link ∷ ys) = rw is-row (slots-at-node limits table left link deep some high) in
+      let all : slotsFrom limits table left link ≡ xs ++ (link ∷ ys) =
+      rw is-row (slots-at-node limits table left link deep some high) in
       let count = length-append xs (link ∷ ys) in
       record {
         list = far .list ∙ rw (all, put, near .list, add-one, near .end) (sym (sets-append before at xs (link ∷ ys)));

@@ -15,7 +15,8 @@ use Rattle.trees.specs.Trees.{Entry, Tree, empty, node, slots}
 use Rattle.trees.proofs.Entries.{mapped-node}
 use Rattle.trees.proofs.SlotCounts.{length-of-slots}
 use Rattle.tables.specs.Words.{rootLink, labelsHeld, firstFree, highMark, rowAt, entryAt}
-use Rattle.tables.specs.Sound.{Reading, unreadable, reads, readNode, readTree, Chain, endless, chain, readChain, wordsAndBytes, counted, soundAs, soundReading, sound, stateRead, stateOf}
+use Rattle.tables.specs.Sound.{Reading, unreadable, reads, readNode, readTree, Chain, endless, chain, readChain}
+use Rattle.tables.specs.Sound.{wordsAndBytes, counted, soundAs, soundReading, sound, stateRead, stateOf}
 use Rattle.lists.specs.Listed.{slotsFrom}
 
 -- the slots of what was read

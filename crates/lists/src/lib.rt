@@ -60,7 +60,8 @@ pub fn list_from(
     left: usize,
 ) -> usize
     requires { ⌜ ListFits limits (now table) at left ⌝ }
-    ensures { λ r. ⌜ Filled (slotsFrom limits (now (table .entry)) left link) (now (list .entry)) at (now (list .exit)) r ⌝ }
+    ensures { λ r. ⌜
+        Filled (slotsFrom limits (now (table .entry)) left link) (now (list .entry)) at (now (list .exit)) r ⌝ }
 {
     if left == 0 {
         return at;
@@ -88,7 +89,9 @@ pub fn list_from(
 // Later words stay, and all words where it is refused.
 pub fn listing_within(limits: Limits, table: &[u16], store: &[u8], list: &mut [u16]) -> ListAnswer
     requires { ⌜ LimitsFit limits ⌝ }
-    ensures { λ r. ⌜ Lists (listingOutcome limits (now (table .entry)) (now (store .entry)) (now (list .entry))) (listSays r) (now (list .exit)) ⌝ }
+    ensures { λ r. ⌜
+        Lists (listingOutcome limits (now (table .entry)) (now (store .entry)) (now (list .entry)))
+        (listSays r) (now (list .exit)) ⌝ }
 {
     let table_len = 4 + 8 * limits.slots;
     let store_len = limits.slots * limits.width;

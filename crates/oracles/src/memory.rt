@@ -1,4 +1,4 @@
-// The words and bytes lent, and the numbers at the places of labels.
+// The words and bytes lent, and the numbers at the places of their labels.
 pub type Table = [u16; 4100];
 
 pub type Store = [u8; 32768];
@@ -77,15 +77,4 @@ pub fn number(table: &Table, store: &Store, slot: usize, place: usize) -> usize 
         return 0;
     }
     byte_number(byte(store, slot, place - 1))
-}
-
-// The number at a place of a label.
-pub fn label_number(label: &[u8], place: usize) -> usize {
-    if place > label.len() {
-        return 0;
-    }
-    if place == 0 {
-        return 0;
-    }
-    byte_number(label[place - 1])
 }

@@ -6,21 +6,11 @@ use crate::memory::Table;
 use crate::refused;
 use crate::sound;
 use crate::steps;
+use plainmap::length_refusal;
 use std::num::wrapping_add_usize;
 
-// The number that refuses a label by its length, or 0.
-fn label_refusal(len: usize) -> usize {
-    if len == 0 {
-        return 3;
-    }
-    if len > 64 {
-        return 4;
-    }
-    0
-}
-
 pub fn search(table: &Table, store: &Store, label: &[u8]) -> Answer {
-    let why = label_refusal(label.len());
+    let why = length_refusal(label.len());
     if why > 0 {
         return refused(why);
     }
@@ -29,7 +19,7 @@ pub fn search(table: &Table, store: &Store, label: &[u8]) -> Answer {
 
 // The number that refuses an update before its search, or 0.
 fn update_refusal(table: &Table, store: &Store, label: &[u8]) -> usize {
-    let why = label_refusal(label.len());
+    let why = length_refusal(label.len());
     if why > 0 {
         return why;
     }

@@ -4,6 +4,7 @@ use crate::memory;
 use crate::memory::Store;
 use crate::memory::Table;
 use crate::refused;
+use plainmap::labels::label_number;
 use std::num::wrapping_add_usize;
 use std::num::wrapping_sub_usize;
 
@@ -114,7 +115,7 @@ fn compare(table: &Table, store: &Store, label: &[u8], at: State, from: usize) -
         at.places,
         wrapping_sub_usize(wrapping_add_usize(end, 1), from),
     );
-    let sought = memory::label_number(label, end);
+    let sought = label_number(label, end);
     let other = memory::number(table, store, at.link, end);
     if sought < other {
         next.s = end;
@@ -132,7 +133,7 @@ fn compare(table: &Table, store: &Store, label: &[u8], at: State, from: usize) -
 // The last place that a comparison from a place on examines: the first difference, or the shared end.
 fn compared_to(table: &Table, store: &Store, slot: usize, label: &[u8], from: usize) -> usize {
     for place in from..65 {
-        let sought = memory::label_number(label, place);
+        let sought = label_number(label, place);
         if sought == 0 {
             return place;
         }

@@ -95,7 +95,7 @@ pub fn last_freed(map: &Lists) -> usize {
 }
 
 // The number that refuses a label by its length, or 0.
-fn length_refusal(len: usize) -> usize {
+pub fn length_refusal(len: usize) -> usize {
     if len == 0 {
         return 3;
     }

@@ -155,7 +155,8 @@ module _ (limits : Limits) (table store : List ℕ) (x : Label) where
 
 -- the outcome of a search that nothing turns away is the answer of the walk from the root
 pub outcome-walked : (limits : Limits) (table store : List ℕ) (x : Label) (a : Answer)
-    → length table ≡ tableLength limits → length store ≡ storeLength limits → (length x ≡ 0 → ⊥) → length x ≤ limits .width
+    → length table ≡ tableLength limits → length store ≡ storeLength limits → (length x ≡ 0 → ⊥)
+    → length x ≤ limits .width
     → a ≡ answerFrom limits table store x (record { link = rootLink table; p = 1; s = 1; visits = 0; places = 0 })
     → a ≡ searchOutcome limits table store x
 unfolding answerFrom searchOutcome searchSteps

@@ -55,7 +55,9 @@ fn found(table: &[u16], spot: Spot, step: Step) -> SearchAnswer
 // The walk from its start on.
 fn walk(limits: Limits, table: &[u16], store: &[u8], label: &[u8], start: Spot) -> SearchAnswer
     requires { ⌜ CanStart limits (now table) (now store) start ⌝ }
-    ensures { λ r. ⌜ searchSays r ≡ answerFrom limits (now (table .entry)) (now (store .entry)) (now (label .entry)) start ⌝ }
+    ensures { λ r. ⌜
+        searchSays r
+        ≡ answerFrom limits (now (table .entry)) (now (store .entry)) (now (label .entry)) start ⌝ }
 {
     let mut spot = start;
     while spot.link != 0 {
@@ -78,7 +80,8 @@ fn walk(limits: Limits, table: &[u16], store: &[u8], label: &[u8], start: Spot) 
 // and a broken walk. Nothing is changed.
 pub fn search_within(limits: Limits, table: &[u16], store: &[u8], label: &[u8]) -> SearchAnswer
     requires { ⌜ LimitsFit limits ⌝ }
-    ensures { λ r. ⌜ searchSays r ≡ searchOutcome limits (now (table .entry)) (now (store .entry)) (now (label .entry)) ⌝ }
+    ensures { λ r. ⌜
+        searchSays r ≡ searchOutcome limits (now (table .entry)) (now (store .entry)) (now (label .entry)) ⌝ }
 {
     if table.len() != 4 + 8 * limits.slots {
         return SearchAnswer::Refused(Refusal::WrongTable);

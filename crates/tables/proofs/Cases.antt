@@ -10,5 +10,6 @@ use Rattle.tables.specs.Cases.{starred, StarredCases}
 
 pub starred-cases : StarredCases
 unfolding
-    numberOf compareLabels compareFrom differencePlace rowAt partAt labelAt writtenTable writtenStore isBad searchSteps wordsAndBytes counted soundAs sound stateOf searchOutcome layoutOutcome updateOutcome starred
+    numberOf compareLabels compareFrom differencePlace rowAt partAt labelAt writtenTable writtenStore isBad searchSteps
+    wordsAndBytes counted soundAs sound stateOf searchOutcome layoutOutcome updateOutcome starred
 starred-cases = refl

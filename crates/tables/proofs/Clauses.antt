@@ -16,7 +16,8 @@ use Rattle.trees.specs.Valid.{ascends, exactlyUpTo}
 use Rattle.trees.proofs.Views.{both-true}
 use Rattle.tables.specs.Words.{rootLink, labelsHeld, firstFree, highMark, rowAt, partAt}
 use Rattle.tables.specs.Sound.{Reading, unreadable, reads, readTree, Chain, endless, chain, readChain}
-use Rattle.tables.specs.Sound.{allZero, usedSlot, usedSlots, zeroBesidesLeft, freedSlots, trueBalances, truePrefixes}
+use Rattle.tables.specs.Sound.{allZero, usedSlot, usedSlots, zeroBesidesLeft, freedSlots}
+use Rattle.tables.specs.Sound.{trueBalances, truePrefixes}
 use Rattle.tables.specs.Sound.{wordsAndBytes, counted, soundAs, soundReading, sound}
 use Rattle.trees.proofs.Passing.{and-true, false-not-true}
 

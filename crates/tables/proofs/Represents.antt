@@ -11,7 +11,8 @@ use Rattle.tables.specs.Words.{rowAt, labelAt}
 use Rattle.tables.specs.Written.{nodeRow}
 
 -- the slot of a node between p and s, with sons l and r
-pub record NodeHeld (limits : Limits) (table store : List ℕ) (p : Neighbour) (l : Tree) (e : Entry) (r : Tree) (s : Neighbour) : Type 0 where
+pub record NodeHeld (limits : Limits) (table store : List ℕ) (p : Neighbour)
+    (l : Tree) (e : Entry) (r : Tree) (s : Neighbour) : Type 0 where
   pub low : 1 ≤ e .slot
   pub high : e .slot ≤ limits .slots
   pub some : 1 ≤ length (e .label)

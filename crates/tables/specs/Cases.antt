@@ -105,4 +105,5 @@ starred =
 
 -- The claim: each case shows what the table says.
 abbrev pub StarredCases : Type 0
-StarredCases = map (λ row. asked (row .asks) (afterCalls (row .calls) laidOut)) starred ≡ map (λ row. row .shows) starred
+StarredCases =
+    map (λ row. asked (row .asks) (afterCalls (row .calls) laidOut)) starred ≡ map (λ row. row .shows) starred

@@ -32,7 +32,8 @@ line false number below = below
 -- "lent memory: 1, table not 4,100 words; 2, store not 32,768 bytes", for all calls
 abbrev pub ofMemory : Limits → (table store : List ℕ) → Verdict → Verdict
 ofMemory limits table store below =
-    line (not (eqb (length table) (tableLength limits))) 1 (line (not (eqb (length store) (storeLength limits))) 2 below)
+    line (not (eqb (length table) (tableLength limits))) 1
+    (line (not (eqb (length store) (storeLength limits))) 2 below)
 
 -- "label: 3, length 0; 4, length above 64"
 abbrev pub ofLabel : Limits → Label → Verdict → Verdict

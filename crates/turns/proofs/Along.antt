@@ -47,7 +47,8 @@ abbrev pub highTo : Neighbour → Label → Tree → Neighbour
 highTo q x empty = q
 highTo q x (node l e r) = towards (compareLabels x (e .label)) (highTo (held (e .label)) x l) q (highTo q x r)
 
--- ---- a tree whose smallest node m is to be taken out and put above it: every other node's fields are those with m as its neighbour below
+-- ---- a tree whose smallest node m is to be taken out and put above it: every other node's fields are those with m as
+-- its neighbour below
 
 abbrev pub RepLeast : List ℕ → Neighbour → Neighbour → Tree → Type 0
 RepLeast table m q empty = Unit {0}
@@ -56,7 +57,8 @@ RepLeast table m q (node empty e r) =
     × (rowAt table (e .slot) .len ≡ length (e .label)) × (rowAt table (e .slot) .value ≡ e .value)
     × (rowAt table (e .slot) .spare ≡ 0) × Rep table (held (e .label)) q r
 RepLeast table m q (node (node a d b) e r) =
-    Stands table m (node a d b) e r q × RepLeast table m (held (e .label)) (node a d b) × Rep table (held (e .label)) q r
+    Stands table m (node a d b) e r q × RepLeast table m (held (e .label)) (node a d b)
+    × Rep table (held (e .label)) q r
 
 -- the subtrees of a node between p and q that is to be taken out
 abbrev pub RepHole : List ℕ → Neighbour → Neighbour → Tree → Tree → Type 0

@@ -46,7 +46,8 @@ inserted-below length path table c slot some of-path of-row lower upper =
 -- The node c over its near son, out of which the node was taken.
 pub deleted-below : (length path height : ℕ) (table : List ℕ) (c place side : ℕ) → length ≢ 0
     → {flip : Bool} {row : Row} {deeper rebuilt : Rebuilt} {below after : List ℕ} → flip ≡ flipOf path
-    → row ≡ rowOn flip table c → Yields (deleteAlong (length - 1) (path / 2) height table (row .left) place side) below deeper
+    → row ≡ rowOn flip table c
+    → Yields (deleteAlong (length - 1) (path / 2) height table (row .left) place side) below deeper
     → Yields (shrink flip below c deeper) after rebuilt
     → Yields (deleteAlong length path height table c place side) after rebuilt
 deleted-below length path height table c place side some of-path of-row lower upper =

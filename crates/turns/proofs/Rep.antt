@@ -63,7 +63,8 @@ abbrev pub Once : List ℕ → Type 0
 Once list = (k : ℕ) → occurrences k list ≤ 1
 
 -- the outcome is the tree t between p and q, so tall, and only these slots were touched
-pub record Refines (before : List ℕ) (p q : Neighbour) (t : Tree) (tall : Bool) (touched : List ℕ) (o : Turned) : Type 0 where
+pub record Refines (before : List ℕ) (p q : Neighbour) (t : Tree) (tall : Bool)
+    (touched : List ℕ) (o : Turned) : Type 0 where
   pub link : o .top .link ≡ linkOf t
   pub height : o .top .tall ≡ tall
   pub rep : Rep (o .table) p q t
@@ -88,7 +89,8 @@ abbrev pub RepOn : Side → List ℕ → Neighbour → Label → Neighbour → T
 RepOn s table p x q t = Rep table (lowOn s p x) (highOn s x q) t
 
 -- the node e between p and q, whose son on side s was near and is near′ now; its own row is still the old one
-pub record Over (s : Side) (table : List ℕ) (p q : Neighbour) (near : Tree) (e : Entry) (far near′ : Tree) (son : Rebuilt) : Type 0 where
+pub record Over (s : Side) (table : List ℕ) (p q : Neighbour) (near : Tree) (e : Entry)
+    (far near′ : Tree) (son : Rebuilt) : Type 0 where
   pub kept : Kept (from s near e far)
   pub order : Between p q (from s near′ e far)
   pub once : Once (slots (from s near′ e far))

@@ -40,7 +40,8 @@ delete-written limits s x e trace deepest valid there way = λ i. record { table
         ≡ writtenTable limits (afterGone s x e)
     on-table =
         after .stores
-        ∙ table-from-rows limits _ (afterGone s x e) (written-rows limits s x e valid there (after .out) (after .turned))
+        ∙ table-from-rows limits _ (afterGone s x e)
+        (written-rows limits s x e valid there (after .out) (after .turned))
 
     on-store : withoutLabel limits (writtenStore limits s) (trace .found) ≡ writtenStore limits (afterGone s x e)
     on-store =

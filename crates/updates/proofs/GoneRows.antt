@@ -25,7 +25,8 @@ use Rattle.turns.specs.Turns.{Turned}
 use Rattle.updates.specs.Slots.{afterFreed, withCount}
 use Rattle.updates.specs.Inserts.{rooted}
 use Rattle.updates.proofs.InRows.{RowsOf, rows-kept}
-use Rattle.updates.proofs.Roots.{Placed, root-of-rooted, placed-rooted, header-of-rooted, link-apart, rows-of-rep}
+use Rattle.updates.proofs.Roots.{Placed, root-of-rooted, placed-rooted, header-of-rooted}
+use Rattle.updates.proofs.Roots.{link-apart, rows-of-rep}
 use Rattle.updates.proofs.FromRows.{WrittenRows}
 use Rattle.updates.proofs.Freed.{FreedWords, freed-words}
 use Rattle.updates.proofs.Gone.{afterGone, GoneSlot, gone-slot}

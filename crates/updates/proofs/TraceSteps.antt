@@ -71,7 +71,8 @@ module _ (limits : Limits) (table store : List ℕ) (x : Label) (w : Spot) (belo
             rw (left, step) (trace-at-node (limits .depth - (w .visits + 1)) going)
 
         -- where the label is found, the search ends
-        pub trace-found : t .found ≡ true → r ≡ foundAt w (t .examined) below above → r ≡ traceOn limits table store x w below above
+        pub trace-found : t .found ≡ true → r ≡ foundAt w (t .examined) below above
+            → r ≡ traceOn limits table store x w below above
         trace-found is e = e ∙ sym (rw is at trace-stepped)
 
         module _ (v : Spot) (deeper : Trace) (on : t .found ≡ false)

@@ -18,7 +18,8 @@ readyToDelete limits table store trace =
 unfoldable pub deletedTable : Limits → (table store : List ℕ) → Trace → List ℕ
 deletedTable limits table store trace =
     let ready = readyToDelete limits table store trace in
-    let out = deleteAlong (trace .length) (trace .path) (limits .depth) (ready .table) (rootLink table) (ready .next .place) (ready .next .side) in
+    let out = deleteAlong (trace .length) (trace .path) (limits .depth) (ready .table) (rootLink table)
+    (ready .next .place) (ready .next .side) in
     withCount (afterFreed (rooted out) (trace .found)) (labelsHeld table - 1)
 
 unfoldable pub deletedMemory : Limits → (table store : List ℕ) → Trace → Memory

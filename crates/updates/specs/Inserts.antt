@@ -30,7 +30,16 @@ leafFields trace = record { place = leafPlace trace; side = leafSide trace }
 
 abbrev pub leafRow : Fields → (len value : ℕ) → Row
 leafRow fields len value =
-    record { left = 0; right = 0; place = fields .place; side = fields .side; balance = 1; len = len; value = value; spare = 0 }
+    record {
+      left = 0;
+      right = 0;
+      place = fields .place;
+      side = fields .side;
+      balance = 1;
+      len = len;
+      value = value;
+      spare = 0;
+    }
 
 -- the tree's root set, and its place
 unfoldable pub rooted : Turned → List ℕ
@@ -40,7 +49,8 @@ rooted o = withRootPlace (set (o .table) 0 (o .top .link)) 1
 unfoldable pub withLeaf : List ℕ → Label → (value : ℕ) → Trace → List ℕ
 withLeaf table x value trace =
     withRootPlace
-    (putRow (withCount (afterTaken table) (labelsHeld table + 1)) (slotTaken table) (leafRow (leafFields trace) (length x) value)) 0
+    (putRow (withCount (afterTaken table) (labelsHeld table + 1)) (slotTaken table)
+    (leafRow (leafFields trace) (length x) value)) 0
 
 unfoldable pub insertedTable : List ℕ → Label → (value : ℕ) → Trace → List ℕ
 insertedTable table x value trace =

@@ -47,7 +47,8 @@ leastFrom (suc left) table k =
 unfoldable pub renewedSpines : Limits → (table store : List ℕ) → (c below above m : ℕ) → List ℕ
 renewedSpines limits table store c below above m =
     renewedSpine limits true (limits .depth)
-    (renewedSpine limits false (limits .depth) table store (rowAt table c .left) below m) store (rowAt table c .right) above m
+    (renewedSpine limits false (limits .depth) table store (rowAt table c .left) below m)
+    store (rowAt table c .right) above m
 
 -- around a node c with one son, between the slots below and above
 unfoldable pub renewedSon : Limits → (table store : List ℕ) → (son below above : ℕ) → List ℕ
@@ -65,7 +66,10 @@ unfoldable pub renewedAround : Limits → (table store : List ℕ) → (c below 
 renewedAround limits table store c below above =
     let row = rowAt table c in
     let m = leastFrom (limits .depth) table (row .right) in
-    let two : Renewed = record { table = renewedSpines limits table store c below above m; next = fieldsBetween limits table store m below above } in
+    let two : Renewed = record {
+      table = renewedSpines limits table store c below above m;
+      next = fieldsBetween limits table store m below above;
+    } in
     let right : Renewed = record { table = renewedSon limits table store (row .right) below above; next = noFields } in
     let left : Renewed = record { table = renewedSon limits table store (row .left) below above; next = noFields } in
     cond (eqb (row .left) 0) right (cond (eqb (row .right) 0) left two)

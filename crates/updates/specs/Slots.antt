@@ -24,7 +24,8 @@ slotTaken table = cond (eqb (firstFree table) 0) (highMark table + 1) (firstFree
 -- the table without the slot in its free chain, or with a higher mark
 unfoldable pub afterTaken : List ℕ → List ℕ
 afterTaken table =
-    cond (eqb (firstFree table) 0) (set table 3 (highMark table + 1)) (set table 2 (rowAt table (firstFree table) .left))
+    cond (eqb (firstFree table) 0) (set table 3 (highMark table + 1))
+    (set table 2 (rowAt table (firstFree table) .left))
 
 -- the slot put in front of the free chain, its other words zero
 unfoldable pub afterFreed : List ℕ → ℕ → List ℕ

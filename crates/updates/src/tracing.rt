@@ -73,7 +73,8 @@ fn trace_from(
     above: u16,
 ) -> Trace
     requires { ⌜ CanTrace limits (now table) (now store) spot ⌝ }
-    ensures { λ r. ⌜ r ≡ traceOn limits (now (table .entry)) (now (store .entry)) (now (label .entry)) spot below above ⌝ }
+    ensures { λ r. ⌜
+        r ≡ traceOn limits (now (table .entry)) (now (store .entry)) (now (label .entry)) spot below above ⌝ }
 {
     if spot.link == 0 {
         return ended(spot, below, above);

@@ -78,7 +78,8 @@ module _ (limits : Limits) (table store : List ℕ) (k : ℕ) where
   hidden number e = part-refused _ _ (viewVerdict limits table store k) number e
 
   -- what the second call knows from the first call's answer
-  module _ (answer : DoneAnswer) (says : doneSays answer ≡ viewOutcome limits table store k) (is-done : answer ≡ Done) where
+  module _ (answer : DoneAnswer) (says : doneSays answer ≡ viewOutcome limits table store k)
+      (is-done : answer ≡ Done) where
     fits : ViewFits limits table store k
     fits = view-fits (cc)
 

@@ -34,7 +34,9 @@ pub fn clear_bytes(bytes: &mut [u8])
 // Lays out an empty table and its store; refused by 1 and 2, where table and store stay.
 pub fn layout_within(limits: Limits, table: &mut [u16], store: &mut [u8]) -> DoneAnswer
     requires { ⌜ LimitsFit limits ⌝ }
-    ensures { λ r. ⌜ Gives (layoutOutcome limits (now (table .entry)) (now (store .entry))) (doneSays r) (now (table .exit)) (now (store .exit)) ⌝ }
+    ensures { λ r. ⌜
+        Gives (layoutOutcome limits (now (table .entry)) (now (store .entry)))
+        (doneSays r) (now (table .exit)) (now (store .exit)) ⌝ }
 {
     let table_len = 4 + 8 * limits.slots;
     let store_len = limits.slots * limits.width;

@@ -24,34 +24,51 @@ module _ (t : List ℕ) (b : ℕ) (r : Row) (fits : b + 8 ≤ length t) where
 
   read-back : rowFrom (putFrom t b r) b ≡ r
   read-back =
-      let s0 = set t b (r .left) in
-      let s1 = set s0 (b + 1) (r .right) in
-      let s2 = set s1 (b + 2) (r .place) in
-      let s3 = set s2 (b + 3) (r .side) in
-      let s4 = set s3 (b + 4) (r .balance) in
-      let s5 = set s4 (b + 5) (r .len) in
-      let s6 = set s5 (b + 6) (r .value) in
-      let first : getD (putFrom t b r) b 0 ≡ r .left = simp (above-first, tt {0}) (getD-set-same t b (r .left) 0 (omega arith)) in
-      let e1 : getD (putFrom t b r) (b + 1) 0 ≡ r .right = simp (above, tt {0}) (back s0 1 (r .right) (simp length-set) (omega arith)) in
-      let e2 : getD (putFrom t b r) (b + 2) 0 ≡ r .place = simp (above, tt {0}) (back s1 2 (r .place) (simp length-set) (omega arith)) in
-      let e3 : getD (putFrom t b r) (b + 3) 0 ≡ r .side = simp (above, tt {0}) (back s2 3 (r .side) (simp length-set) (omega arith)) in
-      let e4 : getD (putFrom t b r) (b + 4) 0 ≡ r .balance = simp (above, tt {0}) (back s3 4 (r .balance) (simp length-set) (omega arith)) in
-      let e5 : getD (putFrom t b r) (b + 5) 0 ≡ r .len = simp (above, tt {0}) (back s4 5 (r .len) (simp length-set) (omega arith)) in
-      let e6 : getD (putFrom t b r) (b + 6) 0 ≡ r .value = simp (above, tt {0}) (back s5 6 (r .value) (simp length-set) (omega arith)) in
-      let e7 : getD (putFrom t b r) (b + 7) 0 ≡ r .spare = back s6 7 (r .spare) (simp length-set) (omega arith) in
-      λ i. record { left = first i; right = e1 i; place = e2 i; side = e3 i; balance = e4 i; len = e5 i; value = e6 i; spare = e7 i }
+      let with-left = set t b (r .left) in
+      let with-right = set with-left (b + 1) (r .right) in
+      let with-place = set with-right (b + 2) (r .place) in
+      let with-side = set with-place (b + 3) (r .side) in
+      let with-balance = set with-side (b + 4) (r .balance) in
+      let with-len = set with-balance (b + 5) (r .len) in
+      let with-value = set with-len (b + 6) (r .value) in
+      let left-back : getD (putFrom t b r) b 0 ≡ r .left =
+      simp (above-first, tt {0}) (getD-set-same t b (r .left) 0 (omega arith)) in
+      let right-back : getD (putFrom t b r) (b + 1) 0 ≡ r .right =
+      simp (above, tt {0}) (back with-left 1 (r .right) (simp length-set) (omega arith)) in
+      let place-back : getD (putFrom t b r) (b + 2) 0 ≡ r .place =
+      simp (above, tt {0}) (back with-right 2 (r .place) (simp length-set) (omega arith)) in
+      let side-back : getD (putFrom t b r) (b + 3) 0 ≡ r .side =
+      simp (above, tt {0}) (back with-place 3 (r .side) (simp length-set) (omega arith)) in
+      let balance-back : getD (putFrom t b r) (b + 4) 0 ≡ r .balance =
+      simp (above, tt {0}) (back with-side 4 (r .balance) (simp length-set) (omega arith)) in
+      let len-back : getD (putFrom t b r) (b + 5) 0 ≡ r .len =
+      simp (above, tt {0}) (back with-balance 5 (r .len) (simp length-set) (omega arith)) in
+      let value-back : getD (putFrom t b r) (b + 6) 0 ≡ r .value =
+      simp (above, tt {0}) (back with-len 6 (r .value) (simp length-set) (omega arith)) in
+      let spare-back : getD (putFrom t b r) (b + 7) 0 ≡ r .spare =
+      back with-value 7 (r .spare) (simp length-set) (omega arith) in
+      λ i. record {
+        left = left-back i;
+        right = right-back i;
+        place = place-back i;
+        side = side-back i;
+        balance = balance-back i;
+        len = len-back i;
+        value = value-back i;
+        spare = spare-back i;
+      }
 
 -- a word outside the eight that are stored from b
 outside : (t : List ℕ) (b i : ℕ) (r : Row) → ((j : ℕ) → j < 8 → i ≡ b + j → ⊥) → getD (putFrom t b r) i 0 ≡ getD t i 0
 outside t b i r h =
-    let n0 : i ≢ b = λ e. h 0 (omega arith) (omega arith) in
-    let n1 : i ≢ b + 1 = h 1 (omega arith) in
-    let n2 : i ≢ b + 2 = h 2 (omega arith) in
-    let n3 : i ≢ b + 3 = h 3 (omega arith) in
-    let n4 : i ≢ b + 4 = h 4 (omega arith) in
-    let n5 : i ≢ b + 5 = h 5 (omega arith) in
-    let n6 : i ≢ b + 6 = h 6 (omega arith) in
-    let n7 : i ≢ b + 7 = h 7 (omega arith) in
+    let not-left : i ≢ b = λ e. h 0 (omega arith) (omega arith) in
+    let not-right : i ≢ b + 1 = h 1 (omega arith) in
+    let not-place : i ≢ b + 2 = h 2 (omega arith) in
+    let not-side : i ≢ b + 3 = h 3 (omega arith) in
+    let not-balance : i ≢ b + 4 = h 4 (omega arith) in
+    let not-len : i ≢ b + 5 = h 5 (omega arith) in
+    let not-value : i ≢ b + 6 = h 6 (omega arith) in
+    let not-spare : i ≢ b + 7 = h 7 (omega arith) in
     simp getD-set-other
 
 pub length-put-row : (t : List ℕ) (k : ℕ) (r : Row) → length (putRow t k r) ≡ length t
@@ -65,7 +82,16 @@ row-put-same t k r h = read-back t (slotStart k) r (omega arith)
 pub row-put-other : (t : List ℕ) (k j : ℕ) (r : Row) → 1 ≤ k → 1 ≤ j → j ≢ k → rowAt (putRow t k r) j ≡ rowAt t j
 unfolding rowAt putRow
 row-put-other t k j r p q n =
-    λ i. record { left = first i; right = at 1 (omega arith) i; place = at 2 (omega arith) i; side = at 3 (omega arith) i; balance = at 4 (omega arith) i; len = at 5 (omega arith) i; value = at 6 (omega arith) i; spare = at 7 (omega arith) i }
+    λ i. record {
+      left = first i;
+      right = at 1 (omega arith) i;
+      place = at 2 (omega arith) i;
+      side = at 3 (omega arith) i;
+      balance = at 4 (omega arith) i;
+      len = at 5 (omega arith) i;
+      value = at 6 (omega arith) i;
+      spare = at 7 (omega arith) i;
+    }
   where
     apart : (m x : ℕ) → m < 8 → x < 8 → slotStart j + m ≡ slotStart k + x → ⊥
     apart m x a b e = omega arith

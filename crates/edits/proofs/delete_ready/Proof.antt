@@ -20,8 +20,8 @@ returns c = search delete-missing
 delete-entry-requires : tie.Need-delete-entry-requires
 delete-entry-requires c κs = search can-delete
 
-cast-t17 : tie.Need-cast-t17
-cast-t17 c = search needs
+cast-slot : tie.Need-cast-slot
+cast-slot c = search needs
 
 same-length-3 : tie.Need-same-length-3
 same-length-3 c = search needs
@@ -41,7 +41,7 @@ delete-ready-spec =
     same-length-2
     returns
     delete-entry-requires
-    cast-t17
+    cast-slot
     same-length-3
     same-length-4
     returns-2)

@@ -35,8 +35,8 @@ returns-2 c = search insert-full
 insert-entry-requires : tie.Need-insert-entry-requires
 insert-entry-requires c κs = search can-insert
 
-cast-t23 : tie.Need-cast-t23
-cast-t23 c = search needs
+cast-slot : tie.Need-cast-slot
+cast-slot c = search needs
 
 same-length-5 : tie.Need-same-length-5
 same-length-5 c = search needs
@@ -61,7 +61,7 @@ insert-ready-spec =
     same-length-4
     returns-2
     insert-entry-requires
-    cast-t23
+    cast-slot
     same-length-5
     same-length-6
     returns-3)

@@ -1,6 +1,7 @@
 use native.Mathlib.Omega.{arith}
 use borrow.Author.Needs.{needs}
-use Rattle.lists.proofs.ListLaws.{slots-at-depth, slots-at-none, slots-above, filled-by-none, filled-by-node, fits-near, fits-far, next-fits}
+use Rattle.lists.proofs.ListLaws.{slots-at-depth, slots-at-none, slots-above, filled-by-none, filled-by-node}
+use Rattle.lists.proofs.ListLaws.{fits-near, fits-far, next-fits}
 use Prim.Native.Nat.{ℕ, _<_}
 use borrow.Fn.Kinds.{In}
 use borrow.Fn.PlainCycle.{Measures, is, falls, and}
