@@ -1,8 +1,8 @@
 // The index's answers in numbers, and their comparison.
-use crate::faults;
 use oracles::Answer;
 use oracles::refused;
 use plainmap::Said;
+use reports::faults;
 use types::DoneAnswer;
 use types::ListAnswer;
 use types::SearchAnswer;

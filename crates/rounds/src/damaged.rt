@@ -1,11 +1,11 @@
 // Calls on memory of any content, each compared with the paper's outcome for it.
 use crate::answers;
-use crate::faults;
 use crate::states;
 use oracles::memory;
 use oracles::memory::Store;
 use oracles::memory::Table;
 use oracles::outcomes;
+use reports::faults;
 use std::num::wrapping_add_usize;
 
 // Every call that leaves the memory, on a label and a slot.

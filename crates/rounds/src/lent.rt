@@ -1,11 +1,11 @@
 // Calls on lent memory of other lengths, which is refused and left as it was.
 use crate::answers;
 use crate::answers::Listing;
-use crate::faults;
 use crate::states;
 use oracles::memory;
 use oracles::memory::Store;
 use oracles::memory::Table;
+use reports::faults;
 use std::num::wrapping_add_usize;
 
 // A table and a store with a word and a byte more than the hub's.

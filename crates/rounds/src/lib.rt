@@ -1,7 +1,6 @@
 // Calls of the index, each compared with what the plain map and the second writing of the paper say.
 pub mod answers;
 pub mod damaged;
-pub mod faults;
 pub mod lent;
 pub mod states;
 
@@ -9,13 +8,8 @@ use oracles::Answer;
 use oracles::memory::Store;
 use oracles::memory::Table;
 use plainmap::lists::Lists;
-
-// What came of a call: the fault, that is what differs first, 0 for nothing; and the index's number and slot.
-pub struct Round {
-    pub fault: usize,
-    pub number: usize,
-    pub slot: usize,
-}
+use reports::Round;
+use reports::faults;
 
 fn ended(fault: usize, said: Answer) -> Round {
     Round {

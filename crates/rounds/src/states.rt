@@ -1,10 +1,10 @@
 // The table and store after a call, compared with the map.
 use crate::answers;
-use crate::faults;
 use oracles::memory;
 use oracles::memory::Store;
 use oracles::memory::Table;
 use plainmap::lists::Lists;
+use reports::faults;
 
 // Whether two tables and stores hold the same words and bytes.
 pub fn same(table: &Table, store: &Store, other_table: &Table, other_store: &Store) -> bool {

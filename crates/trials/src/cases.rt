@@ -1,14 +1,14 @@
 // Case 11 of the paper, by its own numbers: lengths 64, 65 and 0, and a table that holds 512.
 use crate::groups;
-use crate::shapes;
-use crate::tallies;
-use crate::tallies::DELETE;
-use crate::tallies::INSERT;
-use crate::tallies::SEARCH;
-use crate::tallies::Tally;
 use oracles::memory::Store;
 use oracles::memory::Table;
 use plainmap::lists::Lists;
+use reports::tallies;
+use reports::tallies::DELETE;
+use reports::tallies::INSERT;
+use reports::tallies::SEARCH;
+use reports::tallies::Tally;
+use samples::shapes;
 
 pub fn eleven(table: &mut Table, store: &mut Store, map: &mut Lists) {
     groups::start(table, store, map);

@@ -1,14 +1,14 @@
 // The groups of calls on damaged memory: sound tables with one word or one byte changed, and memory of other lengths.
 use crate::groups;
-use crate::numbers;
-use crate::shapes;
-use crate::shapes::Label;
-use crate::tallies;
-use crate::texts;
 use oracles::memory;
 use oracles::memory::Store;
 use oracles::memory::Table;
 use plainmap::lists::Lists;
+use reports::tallies;
+use reports::texts;
+use samples::numbers;
+use samples::shapes;
+use samples::shapes::Label;
 use std::num::wrapping_add_usize;
 use std::num::wrapping_sub_usize;
 

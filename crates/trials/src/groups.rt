@@ -1,16 +1,16 @@
 // The groups of calls on sound tables.
-use crate::numbers;
-use crate::shapes;
-use crate::shapes::Label;
-use crate::tallies;
-use crate::tallies::DELETE;
-use crate::tallies::INSERT;
-use crate::tallies::SEARCH;
-use crate::tallies::Tally;
 use oracles::memory::Store;
 use oracles::memory::Table;
 use plainmap::lists::Lists;
-use rounds::Round;
+use reports::Round;
+use reports::tallies;
+use reports::tallies::DELETE;
+use reports::tallies::INSERT;
+use reports::tallies::SEARCH;
+use reports::tallies::Tally;
+use samples::numbers;
+use samples::shapes;
+use samples::shapes::Label;
 
 // Lays out the index and empties the map.
 pub fn start(table: &mut Table, store: &mut Store, map: &mut Lists) {

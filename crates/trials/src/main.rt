@@ -4,10 +4,6 @@
 mod cases;
 mod damage;
 mod groups;
-mod numbers;
-mod shapes;
-mod tallies;
-mod texts;
 
 use damage::BYTES;
 use damage::WORDS;
@@ -15,11 +11,12 @@ use damage::prepare;
 use oracles::memory::Store;
 use oracles::memory::Table;
 use plainmap::lists::Lists;
-use shapes::ALIKE;
-use shapes::ANY;
-use shapes::ENDS;
-use shapes::ROSTER;
-use shapes::SHORT;
+use reports::tallies;
+use samples::shapes::ALIKE;
+use samples::shapes::ANY;
+use samples::shapes::ENDS;
+use samples::shapes::ROSTER;
+use samples::shapes::SHORT;
 
 fn main() {
     let mut table = [0u16; 4100];

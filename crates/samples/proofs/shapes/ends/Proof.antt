@@ -1,9 +1,9 @@
--- `trials::shapes::ends` is safe and ends. The loop's invariant: its counter stays within its range. The measure is
+-- `samples::shapes::ends` is safe and ends. The loop's invariant: its counter stays within its range. The measure is
 -- what is left of the range. Assumes nothing.
 use Prim.Native.Nat.{_≤_, _-_}
 use borrow.Author.Needs.{needs}
-use Rattle.trials.proofs.shapes.ends.Statement.{statement}
-use Rattle.trials.proofs.shapes.ends.Tie as tie
+use Rattle.samples.proofs.shapes.ends.Statement.{statement}
+use Rattle.samples.proofs.shapes.ends.Tie as tie
 
 abbrev Inv-loop : tie.InvT-loop
 Inv-loop label₀ k pattern i₀ label i = i ≤ 64

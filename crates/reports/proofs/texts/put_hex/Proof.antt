@@ -1,10 +1,10 @@
--- `trials::texts::put_hex` is safe and ends. The loop's invariant: its counter stays within its range. The measure is
+-- `reports::texts::put_hex` is safe and ends. The loop's invariant: its counter stays within its range. The measure is
 -- what is left of the range. Assumes nothing.
 use Prim.Native.Nat.{_≤_, _-_}
 use borrow.Author.Needs.{needs}
 use lib.ListN.{length}
-use Rattle.trials.proofs.texts.put_hex.Statement.{statement}
-use Rattle.trials.proofs.texts.put_hex.Tie as tie
+use Rattle.reports.proofs.texts.put_hex.Statement.{statement}
+use Rattle.reports.proofs.texts.put_hex.Tie as tie
 
 abbrev Inv-loop : tie.InvT-loop
 Inv-loop line₀ start bytes at₀ i₀ i-end line at i = i ≤ length bytes

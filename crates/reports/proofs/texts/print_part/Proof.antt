@@ -1,9 +1,9 @@
--- `trials::texts::print_part` is safe and ends. A part has as many entries as were asked for. Assumes nothing.
+-- `reports::texts::print_part` is safe and ends. A part has as many entries as were asked for. Assumes nothing.
 use native.Mathlib.Omega.{arith}
 use lib.ListN.{length-take}
 use borrow.Author.Needs.{needs}
-use Rattle.trials.proofs.texts.print_part.Statement.{statement}
-use Rattle.trials.proofs.texts.print_part.Tie as tie
+use Rattle.reports.proofs.texts.print_part.Statement.{statement}
+use Rattle.reports.proofs.texts.print_part.Tie as tie
 
 slice-aggregate-write-all : tie.Need-slice-aggregate-write-all
 slice-aggregate-write-all c = simp length-take (omega arith)

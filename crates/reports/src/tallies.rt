@@ -1,9 +1,9 @@
 // What a group counts, and its line.
-use crate::shapes::Label;
+use crate::Round;
+use crate::faults;
 use crate::texts;
 use crate::texts::Line;
-use rounds::Round;
-use rounds::faults;
+use samples::shapes::Label;
 use std::num::wrapping_add_usize;
 
 // The calls.

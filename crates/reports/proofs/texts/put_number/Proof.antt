@@ -1,9 +1,9 @@
--- `trials::texts::put_number` is safe and ends. The loop's invariant: `power` is at most what it was at first. The
+-- `reports::texts::put_number` is safe and ends. The loop's invariant: `power` is at most what it was at first. The
 -- measure is `power`, which falls. Assumes nothing.
 use Prim.Native.Nat.{_≤_}
 use borrow.Author.Needs.{needs}
-use Rattle.trials.proofs.texts.put_number.Statement.{statement}
-use Rattle.trials.proofs.texts.put_number.Tie as tie
+use Rattle.reports.proofs.texts.put_number.Statement.{statement}
+use Rattle.reports.proofs.texts.put_number.Tie as tie
 
 abbrev Inv-loop : tie.InvT-loop
 Inv-loop line₀ start x at₀ power₀ line at power = power ≤ 1000000

@@ -1,0 +1,11 @@
+// What the tests count and print.
+pub mod faults;
+pub mod tallies;
+pub mod texts;
+
+// What came of a call: the fault, that is what differs first, 0 for nothing; and the index's number and slot.
+pub struct Round {
+    pub fault: usize,
+    pub number: usize,
+    pub slot: usize,
+}
