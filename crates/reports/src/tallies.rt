@@ -13,6 +13,16 @@ pub const INSERT: usize = 1;
 
 pub const DELETE: usize = 2;
 
+pub const CHECK: usize = 3;
+
+pub const LISTING: usize = 4;
+
+pub const VIEW_CHECK: usize = 5;
+
+pub const VIEW: usize = 6;
+
+pub const LAYOUT: usize = 7;
+
 pub struct Tally {
     pub found: usize,
     pub absent: usize,
@@ -97,7 +107,7 @@ pub fn print_mismatch(call: usize, label: &[u8], value: u16, fault: usize) {
     texts::print(&mut line, d);
 }
 
-fn put_fault(line: &mut Line, at: usize, fault: usize) -> usize {
+pub fn put_fault(line: &mut Line, at: usize, fault: usize) -> usize {
     match fault {
         faults::ANSWER => texts::put(line, at, b": the answer"),
         faults::COUNTS => texts::put(line, at, b": the counts"),
@@ -111,11 +121,16 @@ fn put_fault(line: &mut Line, at: usize, fault: usize) -> usize {
     }
 }
 
-fn put_call(line: &mut Line, call: usize) -> usize {
+pub fn put_call(line: &mut Line, call: usize) -> usize {
     match call {
         SEARCH => texts::put(line, 0, b"mismatch: search "),
         INSERT => texts::put(line, 0, b"mismatch: insert "),
-        _ => texts::put(line, 0, b"mismatch: delete "),
+        DELETE => texts::put(line, 0, b"mismatch: delete "),
+        CHECK => texts::put(line, 0, b"mismatch: check "),
+        LISTING => texts::put(line, 0, b"mismatch: listing "),
+        VIEW_CHECK => texts::put(line, 0, b"mismatch: view_check "),
+        VIEW => texts::put(line, 0, b"mismatch: view "),
+        _ => texts::put(line, 0, b"mismatch: layout "),
     }
 }
 

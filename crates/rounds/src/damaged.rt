@@ -5,26 +5,87 @@ use oracles::memory;
 use oracles::memory::Store;
 use oracles::memory::Table;
 use oracles::outcomes;
+use reports::Made;
+use reports::and_call;
 use reports::faults;
+use reports::none_made;
+use reports::tallies::CHECK;
+use reports::tallies::DELETE;
+use reports::tallies::INSERT;
+use reports::tallies::LISTING;
+use reports::tallies::SEARCH;
+use reports::tallies::VIEW;
+use reports::tallies::VIEW_CHECK;
 use std::num::wrapping_add_usize;
 
-// Every call that leaves the memory, on a label and a slot.
-pub fn reads(table: &Table, store: &Store, label: &[u8], slot: usize) -> usize {
+// Every call on a label and a slot, one after the other up to the first fault. The memory stays, or is put back.
+pub fn every(table: &mut Table, store: &mut Store, label: &[u8], slot: usize, value: u16) -> Made {
+    let read = reads(table, store, label, slot);
+    if read.fault > 0 {
+        return read;
+    }
+    let inserted = and_call(read, INSERT, insert(table, store, label, value));
+    if inserted.fault > 0 {
+        return inserted;
+    }
+    and_call(inserted, DELETE, delete(table, store, label))
+}
+
+// The calls that leave the memory.
+fn reads(table: &Table, store: &Store, label: &[u8], slot: usize) -> Made {
+    let searched = and_call(none_made(), SEARCH, search(table, store, label));
+    if searched.fault > 0 {
+        return searched;
+    }
+    let checked = and_call(searched, CHECK, check(table, store));
+    if checked.fault > 0 {
+        return checked;
+    }
+    let listed = and_call(checked, LISTING, listing(table, store));
+    if listed.fault > 0 {
+        return listed;
+    }
+    let asked = and_call(listed, VIEW_CHECK, view_check(table, store, slot));
+    if asked.fault > 0 {
+        return asked;
+    }
+    and_call(asked, VIEW, view(table, store, slot))
+}
+
+fn search(table: &Table, store: &Store, label: &[u8]) -> usize {
     let said = answers::of_search(index::search(table, store, label));
-    if !answers::same(said, outcomes::search(table, store, label)) {
-        return faults::ANSWER;
+    if answers::same(said, outcomes::search(table, store, label)) {
+        return 0;
     }
-    let number = outcomes::check(table, store);
-    if answers::of_done(index::check(table, store)) != number {
-        return faults::CHECK;
+    faults::ANSWER
+}
+
+fn check(table: &Table, store: &Store) -> usize {
+    if answers::of_done(index::check(table, store)) == outcomes::check(table, store) {
+        return 0;
     }
-    if !listing_holds(table, store, number) {
-        return faults::LISTING;
+    faults::CHECK
+}
+
+fn listing(table: &Table, store: &Store) -> usize {
+    if listing_holds(table, store, outcomes::check(table, store)) {
+        return 0;
     }
-    if !view_holds(table, store, slot) {
-        return faults::VIEW;
+    faults::LISTING
+}
+
+fn view_check(table: &Table, store: &Store, slot: usize) -> usize {
+    if answers::of_done(index::view_check(table, store, slot)) == outcomes::view(table, slot) {
+        return 0;
     }
-    0
+    faults::ANSWER
+}
+
+fn view(table: &Table, store: &Store, slot: usize) -> usize {
+    if view_holds(table, store, slot) {
+        return 0;
+    }
+    faults::VIEW
 }
 
 // A listing that is refused with the list as it was; or every label held, in ascending order.
@@ -63,14 +124,10 @@ fn ascends(table: &Table, store: &Store, list: &[u16; 513], count: usize) -> boo
     true
 }
 
-// The view's number, and its part: the label's bytes, or none.
+// The view's part: the label's bytes, or none.
 fn view_holds(table: &Table, store: &Store, slot: usize) -> bool {
-    let number = outcomes::view(table, slot);
-    if answers::of_done(index::view_check(table, store, slot)) != number {
-        return false;
-    }
     let label = index::view(table, store, slot);
-    if number > 0 {
+    if outcomes::view(table, slot) > 0 {
         return label.len() == 0;
     }
     label.len() == memory::field(table, slot, memory::LENGTH) && spells(store, slot, label)
@@ -90,7 +147,7 @@ fn held(table: &Table) -> usize {
 }
 
 // An insert; the memory found is put back.
-pub fn insert(table: &mut Table, store: &mut Store, label: &[u8], value: u16) -> usize {
+fn insert(table: &mut Table, store: &mut Store, label: &[u8], value: u16) -> usize {
     let table_found = *table;
     let store_found = *store;
     let said = answers::of_update(index::insert(table, store, label, value));
@@ -107,7 +164,7 @@ pub fn insert(table: &mut Table, store: &mut Store, label: &[u8], value: u16) ->
 }
 
 // A delete; the memory found is put back.
-pub fn delete(table: &mut Table, store: &mut Store, label: &[u8]) -> usize {
+fn delete(table: &mut Table, store: &mut Store, label: &[u8]) -> usize {
     let table_found = *table;
     let store_found = *store;
     let said = answers::of_update(index::delete(table, store, label));

@@ -4,6 +4,9 @@ use oracles::memory;
 use oracles::memory::Store;
 use oracles::memory::Table;
 use plainmap::lists::Lists;
+use reports::Made;
+use reports::and_call;
+use reports::none_made;
 use reports::tallies;
 use reports::texts;
 use samples::numbers;
@@ -125,10 +128,10 @@ fn calls(table: &mut Table, store: &mut Store, shape: usize, seed: u64, harm: Ha
     let mut label = [0u8; 66];
     let len = shapes::write(&mut label, shape, numbers::below(seed, 80));
     let slot = numbers::below(numbers::next(seed), 80);
-    let fault = opening(table, store, &label, len, slot);
+    let made = opening(table, store, &label, len, slot);
     let mut h = harm;
-    h.calls = wrapping_add_usize(h.calls, 7);
-    if fault > 0 {
+    h.calls = wrapping_add_usize(h.calls, made.calls);
+    if made.fault > 0 {
         h.mismatches = wrapping_add_usize(h.mismatches, 1);
     }
     if oracles::sound::is_sound(table, store) {
@@ -138,34 +141,24 @@ fn calls(table: &mut Table, store: &mut Store, shape: usize, seed: u64, harm: Ha
 }
 
 // Makes every call on the first `len` bytes of a label.
-fn opening(table: &mut Table, store: &mut Store, label: &Label, len: usize, slot: usize) -> usize {
+fn opening(table: &mut Table, store: &mut Store, label: &Label, len: usize, slot: usize) -> Made {
     part(table, store, label, len, slot)
 }
 
-fn part(table: &mut Table, store: &mut Store, label: &[u8], len: usize, slot: usize) -> usize {
+fn part(table: &mut Table, store: &mut Store, label: &[u8], len: usize, slot: usize) -> Made {
     if len > label.len() {
-        return made(table, store, label, slot);
+        return tried(table, store, label, slot);
     }
-    made(table, store, &label[..len], slot)
+    tried(table, store, &label[..len], slot)
 }
 
-// Search, check, listing and both calls of the view; then an insert, and a delete. The first that differs is printed.
-fn made(table: &mut Table, store: &mut Store, label: &[u8], slot: usize) -> usize {
-    let read = rounds::damaged::reads(table, store, label, slot);
-    if read > 0 {
-        tallies::print_mismatch(tallies::SEARCH, label, 0, read);
-        return read;
+// Makes every call; the one that differs, if any, is printed.
+fn tried(table: &mut Table, store: &mut Store, label: &[u8], slot: usize) -> Made {
+    let made = rounds::damaged::every(table, store, label, slot, 99);
+    if made.fault > 0 {
+        tallies::print_mismatch(made.last, label, 99, made.fault);
     }
-    let inserted = rounds::damaged::insert(table, store, label, 99);
-    if inserted > 0 {
-        tallies::print_mismatch(tallies::INSERT, label, 99, inserted);
-        return inserted;
-    }
-    let deleted = rounds::damaged::delete(table, store, label);
-    if deleted > 0 {
-        tallies::print_mismatch(tallies::DELETE, label, 0, deleted);
-    }
-    deleted
+    made
 }
 
 fn print_change(at: usize, other: usize) {
@@ -186,23 +179,94 @@ pub fn print(group: &[u8], harm: Harm) {
     texts::print(&mut line, e);
 }
 
-// Every call on memory of other lengths, with labels of 0, 1 and 65 bytes; and listings into lists of other lengths.
+// Each of the eight calls on memory of ten other lengths, with labels of 0, 1 and 65 bytes; and listings into four lists.
 pub fn lengths(table: &Table, store: &Store) {
-    let label = [104u8; 66];
-    let a = rounds::lent::around(table, store, &label, 0);
-    let b = rounds::lent::around(table, store, &label, 1);
-    let c = rounds::lent::around(table, store, &label, 65);
-    let d = rounds::lent::lists(table, store);
-    print_lengths(a, b, c, d);
+    let mut made = none_made();
+    let mut mismatches = 0usize;
+    for k in 0..244usize {
+        made = lent(table, store, k, made);
+        if made.fault > 0 {
+            mismatches = wrapping_add_usize(mismatches, 1);
+        }
+    }
+    print_lengths(made.calls, mismatches);
 }
 
-// Prints the lengths' line: the faults, 0 for none.
-fn print_lengths(none: usize, one: usize, many: usize, lists: usize) {
+// The call of one number, printed if it differs.
+fn lent(table: &Table, store: &Store, k: usize, made: Made) -> Made {
+    if k > 239 {
+        return listed(table, store, k - 240, made);
+    }
+    let label = [104u8; 66];
+    let call = k % 8;
+    let n = words_lent(k / 8 % 10);
+    let m = bytes_lent(k / 8 % 10);
+    let len = label_lent(k / 80);
+    let fault = rounds::lent::refused(table, store, &label, len, n, m, call);
+    if fault > 0 {
+        print_lent(call, n, m, len, fault);
+    }
+    and_call(made, call, fault)
+}
+
+// The words of ten pairs of lengths: three of each but for the hub's own, then none of one of the two.
+fn words_lent(i: usize) -> usize {
+    match i {
+        0 | 1 | 2 => 4099,
+        3 | 4 | 9 => 4100,
+        8 => 0,
+        _ => 4101,
+    }
+}
+
+fn bytes_lent(i: usize) -> usize {
+    match i {
+        0 | 3 | 5 => 32767,
+        1 | 6 | 8 => 32768,
+        9 => 0,
+        _ => 32769,
+    }
+}
+
+fn label_lent(i: usize) -> usize {
+    match i {
+        0 => 0,
+        1 => 1,
+        _ => 65,
+    }
+}
+
+// A listing into a list with room for none, one slot less than are held, as many, or one more.
+fn listed(table: &Table, store: &Store, i: usize, made: Made) -> Made {
+    let held = memory::word(table, memory::HELD);
+    let n = match i {
+        0 => 0,
+        1 => wrapping_sub_usize(held, 1),
+        2 => held,
+        _ => wrapping_add_usize(held, 1),
+    };
+    let fault = rounds::lent::listing(table, store, n);
+    if fault > 0 {
+        print_lent(tallies::LISTING, n, 0, 0, fault);
+    }
+    and_call(made, tallies::LISTING, fault)
+}
+
+// Prints a call that did not agree: the words lent, of the list for a listing into other lengths, the bytes and the
+// label's length.
+fn print_lent(call: usize, n: usize, m: usize, len: usize, fault: usize) {
     let mut line = [0u8; 400];
-    let a = texts::put(&mut line, 0, b"other lengths: calls 244, faults ");
-    let b = texts::put_number(&mut line, a, none);
-    let c = texts::put_count(&mut line, b, b", ", one);
-    let d = texts::put_count(&mut line, c, b", ", many);
-    let e = texts::put_count(&mut line, d, b", ", lists);
+    let a = tallies::put_call(&mut line, call);
+    let b = texts::put_count(&mut line, a, b"words ", n);
+    let c = texts::put_count(&mut line, b, b" bytes ", m);
+    let d = texts::put_count(&mut line, c, b" label ", len);
+    let e = tallies::put_fault(&mut line, d, fault);
     texts::print(&mut line, e);
+}
+
+fn print_lengths(calls: usize, mismatches: usize) {
+    let mut line = [0u8; 400];
+    let a = texts::put_count(&mut line, 0, b"other lengths: calls ", calls);
+    let b = texts::put_count(&mut line, a, b", mismatches ", mismatches);
+    texts::print(&mut line, b);
 }

@@ -14,23 +14,23 @@ returns-2 c = search needs
 returns-3 : tie.Need-returns-3
 returns-3 c = search needs
 
-slice-reshare-prefix-reads : tie.Need-slice-reshare-prefix-reads
-slice-reshare-prefix-reads c = search needs
+slice-reshare-prefix-read : tie.Need-slice-reshare-prefix-read
+slice-reshare-prefix-read c = search needs
 
-slice-aggregate-reads : tie.Need-slice-aggregate-reads
-slice-aggregate-reads c = simp length-take (omega arith)
+slice-aggregate-read : tie.Need-slice-aggregate-read
+slice-aggregate-read c = simp length-take (omega arith)
 
-slice-reshare-prefix-reads-2 : tie.Need-slice-reshare-prefix-reads-2
-slice-reshare-prefix-reads-2 c = search needs
+slice-reshare-prefix-read-2 : tie.Need-slice-reshare-prefix-read-2
+slice-reshare-prefix-read-2 c = search needs
 
-slice-aggregate-reads-2 : tie.Need-slice-aggregate-reads-2
-slice-aggregate-reads-2 c = simp length-take (omega arith)
+slice-aggregate-read-2 : tie.Need-slice-aggregate-read-2
+slice-aggregate-read-2 c = simp length-take (omega arith)
 
-slice-aggregate-reads-3 : tie.Need-slice-aggregate-reads-3
-slice-aggregate-reads-3 c = simp length-take (omega arith)
+slice-aggregate-read-3 : tie.Need-slice-aggregate-read-3
+slice-aggregate-read-3 c = simp length-take (omega arith)
 
-reads-requires : tie.Need-reads-requires
-reads-requires c κs = search needs
+read-requires : tie.Need-read-requires
+read-requires c κs = search needs
 
 same-length : tie.Need-same-length
 same-length c = search needs
@@ -41,23 +41,23 @@ same-length-2 c = search needs
 returns-4 : tie.Need-returns-4
 returns-4 c = search needs
 
-slice-relend-prefix-writes : tie.Need-slice-relend-prefix-writes
-slice-relend-prefix-writes c = search needs
+slice-relend-prefix-write : tie.Need-slice-relend-prefix-write
+slice-relend-prefix-write c = search needs
 
-slice-aggregate-writes : tie.Need-slice-aggregate-writes
-slice-aggregate-writes c = simp length-take (omega arith)
+slice-aggregate-write : tie.Need-slice-aggregate-write
+slice-aggregate-write c = simp length-take (omega arith)
 
-slice-relend-prefix-writes-2 : tie.Need-slice-relend-prefix-writes-2
-slice-relend-prefix-writes-2 c = search needs
+slice-relend-prefix-write-2 : tie.Need-slice-relend-prefix-write-2
+slice-relend-prefix-write-2 c = search needs
 
-slice-aggregate-writes-2 : tie.Need-slice-aggregate-writes-2
-slice-aggregate-writes-2 c = simp length-take (omega arith)
+slice-aggregate-write-2 : tie.Need-slice-aggregate-write-2
+slice-aggregate-write-2 c = simp length-take (omega arith)
 
-slice-aggregate-writes-3 : tie.Need-slice-aggregate-writes-3
-slice-aggregate-writes-3 c = simp length-take (omega arith)
+slice-aggregate-write-3 : tie.Need-slice-aggregate-write-3
+slice-aggregate-write-3 c = simp length-take (omega arith)
 
-writes-requires : tie.Need-writes-requires
-writes-requires c κs = search needs
+write-requires : tie.Need-write-requires
+write-requires c κs = search needs
 
 same-length-3 : tie.Need-same-length-3
 same-length-3 c = search needs
@@ -75,21 +75,21 @@ parts-spec =
     returns
     returns-2
     returns-3
-    slice-reshare-prefix-reads
-    slice-aggregate-reads
-    slice-reshare-prefix-reads-2
-    slice-aggregate-reads-2
-    slice-aggregate-reads-3
-    reads-requires
+    slice-reshare-prefix-read
+    slice-aggregate-read
+    slice-reshare-prefix-read-2
+    slice-aggregate-read-2
+    slice-aggregate-read-3
+    read-requires
     same-length
     same-length-2
     returns-4
-    slice-relend-prefix-writes
-    slice-aggregate-writes
-    slice-relend-prefix-writes-2
-    slice-aggregate-writes-2
-    slice-aggregate-writes-3
-    writes-requires
+    slice-relend-prefix-write
+    slice-aggregate-write
+    slice-relend-prefix-write-2
+    slice-aggregate-write-2
+    slice-aggregate-write-3
+    write-requires
     same-length-3
     same-length-4
     returns-5)

@@ -5,21 +5,21 @@ use borrow.Author.Needs.{needs}
 use Rattle.trials.proofs.damage.part.Statement.{statement}
 use Rattle.trials.proofs.damage.part.Tie as tie
 
-made-requires : tie.Need-made-requires
-made-requires c κs = search needs
+tried-requires : tie.Need-tried-requires
+tried-requires c κs = search needs
 
 returns : tie.Need-returns
 returns c = search needs
 
-slice-aggregate-made : tie.Need-slice-aggregate-made
-slice-aggregate-made c = simp length-take (omega arith)
+slice-aggregate-tried : tie.Need-slice-aggregate-tried
+slice-aggregate-tried c = simp length-take (omega arith)
 
-made-requires-2 : tie.Need-made-requires-2
-made-requires-2 c κs = search needs
+tried-requires-2 : tie.Need-tried-requires-2
+tried-requires-2 c κs = search needs
 
 returns-2 : tie.Need-returns-2
 returns-2 c = search needs
 
 pub part-spec : {M : Type 1} → statement M
 part-spec =
-    tie.close (tie.spec made-requires returns slice-aggregate-made made-requires-2 returns-2)
+    tie.close (tie.spec tried-requires returns slice-aggregate-tried tried-requires-2 returns-2)
