@@ -1,11 +1,12 @@
 -- A label and its neighbours in the slots of the window.
--- `gap-smaller`, `gap-same`, `gap-larger`: two labels that are to ascend, by their comparison.
+-- `gap-starts`, `gap-smaller`, `gap-same`, `gap-larger`: two labels that are to ascend, by their comparison.
 -- `below-none`, `below-some`, `above-none`, `above-some`: a label and the one in a slot of the window.
 -- `beside-fits`, `held-read`: the label in a slot of the window is read from its part of the store.
 use Prim.Native.Nat.{ℕ, zero, suc, _≤_}
 use mathlib.Core.Path.{_≡_, refl, sym, _∙_}
 use mathlib.Core.List.{List}
 use mathlib.Core.Bool.{cond}
+use native.Mathlib.Omega.{arith}
 use Rattle.types.specs.declared.Limits.{Limits}
 use Rattle.types.specs.declared.Row.{Row}
 use Rattle.labels.specs.Labels.{Label, Comparison, placeOf, compareFrom, compareLabels, differencePlace}
@@ -14,41 +15,55 @@ use Rattle.trees.specs.Valid.{isSmaller}
 use Rattle.tables.specs.Words.{rowAt, labelAt, entryAt}
 use Rattle.compares.specs.declared.Order.the-variants.{Smaller, Same, Larger}
 use Rattle.compares.specs.declared.Compared.{Compared}
-use Rattle.compares.specs.Compares.{comparisonBy, comparisonOf}
+use Rattle.labels.proofs.Ends.{ends-of-labels}
+use Rattle.labels.proofs.Late.{compare-late}
+use Rattle.compares.specs.Compares.{comparisonBy, comparisonOf, StartsWithin}
 use Rattle.checks.specs.Check.{belowIn, aboveIn}
 use Rattle.checks.specs.Parts.{gapOf}
-use Rattle.checks.specs.Fits.{PartFits, Beside}
+use Rattle.checks.specs.Fits.{PartFits, Beside, MayStart}
 use Rattle.checks.specs.declared.Gap.{Gap}
 use Rattle.checks.specs.declared.Gap.the-variants.{Wrong, Place}
 
 -- ---- two labels that are to ascend
 
-module _ (x y : Label) (c : Compared) (so : comparisonOf c ≡ compareFrom 1 x y) where
-  -- by what the comparison finds
-  found : (k : Comparison) → comparisonOf c ≡ k → cond (isSmaller k) (Place (placeOf k)) Wrong ≡ gapOf (held x) (held y)
-  unfolding gapOf differencePlace compareLabels compareFrom
-  found k e = rw (sym e ∙ so)
+module _ (x y : Label) (from : ℕ) (start : MayStart (held x) (held y) from) where
+  -- the comparison may start there
+  pub gap-starts : StartsWithin from y
+  unfolding differencePlace
+  gap-starts = let ends = ends-of-labels x y in record { low = start .low; high = omega arith }
 
-  -- they ascend
-  pub gap-smaller : c .order ≡ Smaller → Place (c .place) ≡ gapOf (held x) (held y)
-  gap-smaller o = found (comparisonBy Smaller (c .place)) (rw o)
+  -- it finds what the whole one finds
+  whole : compareFrom from x y ≡ compareLabels x y
+  unfolding differencePlace
+  whole = let ends = ends-of-labels x y in compare-late from x y (start .low) (omega arith)
 
-  -- they are alike
-  pub gap-same : c .order ≡ Same → Wrong ≡ gapOf (held x) (held y)
-  gap-same o = found (comparisonBy Same (c .place)) (rw o)
+  module _ (c : Compared) (so : comparisonOf c ≡ compareFrom from x y) where
+    -- by what the comparison finds
+    found : (k : Comparison) → comparisonOf c ≡ k
+        → cond (isSmaller k) (Place (placeOf k)) Wrong ≡ gapOf (held x) (held y)
+    unfolding gapOf differencePlace
+    found k e = rw (sym e ∙ so ∙ whole)
 
-  -- they descend
-  pub gap-larger : c .order ≡ Larger → Wrong ≡ gapOf (held x) (held y)
-  gap-larger o = found (comparisonBy Larger (c .place)) (rw o)
+    -- they ascend
+    pub gap-smaller : c .order ≡ Smaller → Place (c .place) ≡ gapOf (held x) (held y)
+    gap-smaller o = found (comparisonBy Smaller (c .place)) (rw o)
+
+    -- they are alike
+    pub gap-same : c .order ≡ Same → Wrong ≡ gapOf (held x) (held y)
+    gap-same o = found (comparisonBy Same (c .place)) (rw o)
+
+    -- they descend
+    pub gap-larger : c .order ≡ Larger → Wrong ≡ gapOf (held x) (held y)
+    gap-larger o = found (comparisonBy Larger (c .place)) (rw o)
 
 -- ---- the slots of the window
 
 module _ (limits : Limits) (table store : List ℕ) where
-  below-held : (k : ℕ) → (k ≡ 0 → ⊥) → belowIn limits table store k ≡ held (entryAt limits table store k .label)
+  pub below-held : (k : ℕ) → (k ≡ 0 → ⊥) → belowIn limits table store k ≡ held (entryAt limits table store k .label)
   below-held zero n = absurd (n refl)
   below-held (suc k) n = refl
 
-  above-held : (k : ℕ) → (k ≡ 0 → ⊥) → aboveIn limits table store k ≡ held (entryAt limits table store k .label)
+  pub above-held : (k : ℕ) → (k ≡ 0 → ⊥) → aboveIn limits table store k ≡ held (entryAt limits table store k .label)
   above-held zero n = absurd (n refl)
   above-held (suc k) n = refl
 
@@ -86,3 +101,12 @@ module _ (limits : Limits) (table store : List ℕ) (k : ℕ) where
   pub held-read : (row : Row) (y : Label) → y ≡ labelAt limits store k (row .len) → row ≡ rowAt table k
       → y ≡ entryAt limits table store k .label
   held-read row y e read = rw read at e
+
+  -- a comparison with a slot below, and with one above
+  pub below-starts : (x y : Label) (from : ℕ) → (k ≡ 0 → ⊥) → y ≡ entryAt limits table store k .label
+      → MayStart (belowIn limits table store k) (held x) from → MayStart (held y) (held x) from
+  below-starts x y from n e start = rw e (rw (below-held limits table store k n) at start)
+
+  pub above-starts : (x y : Label) (from : ℕ) → (k ≡ 0 → ⊥) → y ≡ entryAt limits table store k .label
+      → MayStart (held x) (aboveIn limits table store k) from → MayStart (held x) (held y) from
+  above-starts x y from n e start = rw e (rw (above-held limits table store k n) at start)

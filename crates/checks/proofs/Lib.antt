@@ -1,6 +1,7 @@
 pub mod ZeroLaws
 pub mod PartLaws
 pub mod GapLaws
+pub mod WindowLaws
 pub mod NodeLaws
 pub mod OverLaws
 pub mod TreeLaws

@@ -1,5 +1,5 @@
 -- A node between its neighbours, from what the parts of its test find.
--- `place-wrong`, `side-below`, `side-above`, `lower-wrong`, `upper-wrong`, `both-placed`: place and side.
+-- `place-wrong`, `side-below`, `side-above`, `fields-broken`, `fields-wrong`, `fields-right`: place and side.
 -- `node-unused`, `node-used`, `node-placed`: the whole test.
 use Prim.Native.Nat.{ℕ, _≤_, _<_, max}
 use mathlib.Core.Path.{_≡_, refl, sym, ap, _∙_}
@@ -12,11 +12,12 @@ use Rattle.types.specs.declared.Row.{Row}
 use Rattle.labels.specs.Labels.{Label}
 use Rattle.labels.specs.Neighbours.{Neighbour, held, difference}
 use Rattle.tables.specs.Words.{rowAt, labelAt, entryAt}
-use Rattle.checks.specs.Check.{isBefore, nodeFine}
-use Rattle.checks.specs.Parts.{usedRow, gapOf, fieldsBy, fieldsFine}
+use Rattle.checks.specs.Check.{isBefore, belowIn, aboveIn, nodeFine}
+use Rattle.checks.specs.Parts.{usedRow, gapOf, gapsOf, gapsIn, fieldsBy, bothWhen, fieldsFine, fineGaps}
 use Rattle.checks.specs.Fits.{PartFits, NodeFits}
-use Rattle.checks.specs.declared.Gap.{Gap}
 use Rattle.checks.specs.declared.Gap.the-variants.{Wrong, Place}
+use Rattle.checks.specs.declared.Gaps.{Gaps}
+use Rattle.checks.specs.declared.Gaps.the-variants.{Broken, Both}
 use Rattle.checks.proofs.PartLaws.{used-short}
 
 -- ---- place and side
@@ -39,28 +40,28 @@ module _ (place side p q r s : ℕ) (inner : r ≡ max p q) (outer : s ≡ max 1
   unfolding fieldsBy
   side-above e h = rw (eq-eqb _ _ (whole e), lt-leb _ _ h)
 
-module _ (row : Row) (lower upper : Gap) where
-  -- a label that lies wrongly to a neighbour
-  pub lower-wrong : lower ≡ Wrong → false ≡ fieldsFine row lower upper
+module _ (row : Row) (both : Gaps) where
+  -- a label that is not in order
+  pub fields-broken : both ≡ Broken → Broken ≡ fieldsFine row both
   unfolding fieldsFine
-  lower-wrong e = rw e
-
-  pub upper-wrong : (p : ℕ) → lower ≡ Place p → upper ≡ Wrong → false ≡ fieldsFine row lower upper
-  unfolding fieldsFine
-  upper-wrong p e f = rw (e, f)
+  fields-broken e = rw e
 
   -- a label between its neighbours
-  pub both-placed : (p q : ℕ) (r : Bool) → lower ≡ Place p → upper ≡ Place q
-      → r ≡ fieldsBy (row .place) (row .side) p q → r ≡ fieldsFine row lower upper
-  unfolding fieldsFine
-  both-placed p q r e f g = rw (e, f) g
+  module _ (p q : ℕ) (t : Bool) (e : both ≡ Both p q) (tested : t ≡ fieldsBy (row .place) (row .side) p q) where
+    pub fields-wrong : t ≡ false → Broken ≡ fieldsFine row both
+    unfolding fieldsFine
+    fields-wrong f = rw (e, sym tested ∙ f)
+
+    pub fields-right : t ≡ true → Both p q ≡ fieldsFine row both
+    unfolding fieldsFine
+    fields-right f = rw (e, sym tested ∙ f)
 
 -- ---- the whole test of a node
 
 -- two neighbours and the label between them, as two gaps
 gaps : (row : Row) (a b : Bool) (p q : ℕ)
-    → fieldsFine row (cond a (Place p) Wrong) (cond b (Place q) Wrong)
-    ≡ a && (b && fieldsBy (row .place) (row .side) p q)
+    → fieldsFine row (gapsOf (cond a (Place p) Wrong) (cond b (Place q) Wrong))
+    ≡ bothWhen (a && (b && fieldsBy (row .place) (row .side) p q)) p q
 unfolding fieldsFine
 gaps row true true p q = refl
 gaps row true false p q = refl
@@ -69,9 +70,10 @@ gaps row false b p q = refl
 -- a slot in use, whose fields decide
 placed : (limits : Limits) (table store : List ℕ) (k : ℕ) (p s : Neighbour)
     → usedRow limits store k (rowAt table k) ≡ true
-    → fieldsFine (rowAt table k) (gapOf p (held (entryAt limits table store k .label)))
-    (gapOf (held (entryAt limits table store k .label)) s)
-    ≡ nodeFine limits table store k p s
+    → fieldsFine (rowAt table k) (gapsOf (gapOf p (held (entryAt limits table store k .label)))
+    (gapOf (held (entryAt limits table store k .label)) s))
+    ≡ bothWhen (nodeFine limits table store k p s) (difference p (held (entryAt limits table store k .label)))
+    (difference (held (entryAt limits table store k .label)) s)
 unfolding nodeFine usedRow gapOf fieldsBy
 placed limits table store k p s e =
     let x = held (entryAt limits table store k .label) in
@@ -80,25 +82,28 @@ placed limits table store k p s e =
 module _ (limits : Limits) (table store : List ℕ) (k : ℕ) (row : Row) (read : row ≡ rowAt table k)
     (t : Bool) (used : t ≡ usedRow limits store k row) where
   -- the words or bytes of the slot are wrong
-  pub node-unused : (p s : Neighbour) → t ≡ false → false ≡ nodeFine limits table store k p s
-  unfolding nodeFine usedRow
-  node-unused p s f = rw (sym (rw read at used) ∙ f)
+  pub node-unused : (below above : ℕ) → t ≡ false → Broken ≡ fineGaps limits table store k below above
+  unfolding fineGaps nodeFine usedRow
+  node-unused below above f = rw (sym (rw read at used) ∙ f)
 
   -- they are right, and the label lies in its part of the store
-  pub node-used : (below above : ℕ) → NodeFits limits table store k row below above → t ≡ true
+  pub node-used : (below above apart : ℕ) → NodeFits limits table store k row below above apart → t ≡ true
       → PartFits limits store k (row .len)
-  node-used below above fits e =
+  node-used below above apart fits e =
       record {
         low = fits .low;
         high = fits .high;
         within = used-short limits store k row (sym used ∙ e);
-        whole = fits .sizes .bytes;
+        whole = fits .between .sizes .bytes;
       }
 
   -- they are right, and the fields decide
-  pub node-placed : (p s : Neighbour) (x : Label) (lower upper : Gap) (r : Bool)
+  pub node-placed : (below above : ℕ) (x : Label) (both r : Gaps)
       → t ≡ true → x ≡ labelAt limits store k (row .len)
-      → lower ≡ gapOf p (held x) → upper ≡ gapOf (held x) s → r ≡ fieldsFine row lower upper
-      → r ≡ nodeFine limits table store k p s
-  node-placed p s x lower upper r e label below above fine =
-      fine ∙ rw (below, above, label, read) (placed limits table store k p s (sym (rw read at used) ∙ e))
+      → both ≡ gapsIn limits table store below x above → r ≡ fieldsFine row both
+      → r ≡ fineGaps limits table store k below above
+  unfolding fineGaps
+  node-placed below above x both r e label found fine =
+      fine
+      ∙ rw (found, label, read) (placed limits table store k (belowIn limits table store below)
+      (aboveIn limits table store above) (sym (rw read at used) ∙ e))

@@ -30,17 +30,17 @@ pub unsound-not-sound : {A : Type 0} {h c : ℕ} → Unsound ≡ Sound h c → A
 unsound-not-sound is = let z : _≡_ {A = ℕ} 0 1 = cc in absurd (omega arith)
 
 -- The test of the order with a neighbour below a label, and with one above it.
-above-of-test : (p : Neighbour) (x : Label) → isBefore p (held x) ≡ true → Before p (held x)
+pub above-of-test : (p : Neighbour) (x : Label) → isBefore p (held x) ≡ true → Before p (held x)
 above-of-test none-below x passed = below-is-before (none-below-held x)
 above-of-test (held y) x passed = before-of-smaller y x passed
 above-of-test none-above x passed = false-not-true passed
 
-below-of-test : (x : Label) (s : Neighbour) → isBefore (held x) s ≡ true → Before (held x) s
+pub below-of-test : (x : Label) (s : Neighbour) → isBefore (held x) s ≡ true → Before (held x) s
 below-of-test x none-below passed = false-not-true passed
 below-of-test x (held y) passed = before-of-smaller x y passed
 below-of-test x none-above passed = below-is-before (held-none-above x)
 
-test-of-before : (a b : Neighbour) → Before a b → isBefore a b ≡ true
+pub test-of-before : (a b : Neighbour) → Before a b → isBefore a b ≡ true
 test-of-before none-below b before = refl
 test-of-before (held x) none-below before = absurd (below-none-below before)
 test-of-before (held x) (held y) before = smaller-of-before before

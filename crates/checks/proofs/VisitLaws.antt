@@ -12,7 +12,9 @@ use Rattle.types.specs.declared.Row.{Row}
 use Rattle.labels.specs.Neighbours.{Neighbour}
 use Rattle.tables.specs.Words.{rowAt}
 use Rattle.checks.specs.Check.{nodeFine}
-use Rattle.checks.specs.Parts.{usedRow, fineBetween, visitedBy, visited}
+use Rattle.checks.specs.Parts.{usedRow, bothWhen, fineGaps, visitedBy, visited}
+use Rattle.checks.specs.declared.Gaps.{Gaps}
+use Rattle.checks.specs.declared.Gaps.the-variants.{Broken, Both}
 use Rattle.checks.specs.declared.Node.the-variants.{Wrong, Fine}
 use Rattle.checks.specs.declared.Subtree.{Subtree}
 use Rattle.checks.specs.declared.Subtree.the-variants.{Unsound}
@@ -20,27 +22,32 @@ use Rattle.checks.proofs.PartLaws.{and-left, used-short}
 use Rattle.checks.proofs.TreeLaws.{found}
 
 -- a visit that finds the node wrong
-pub wrong-found : (outside fine : Bool) (row : Row) (s : Subtree) → visitedBy outside fine row ≡ Wrong
-    → Unsound ≡ found outside fine s
-wrong-found true fine row s e = refl
-wrong-found false true row s e = cc
-wrong-found false false row s e = refl
+pub wrong-found : (outside fine : Bool) (i j : ℕ) (row : Row) (s : Subtree)
+    → visitedBy outside (bothWhen fine i j) row ≡ Wrong → Unsound ≡ found outside fine s
+wrong-found true fine i j row s e = refl
+wrong-found false true i j row s e = cc
+wrong-found false false i j row s e = refl
 
--- what is known of a node that is fine
-pub record Passed (outside fine : Bool) (row : Row) (smaller larger balance : ℕ) : Type 0 where
+-- what is known of a node that is fine, whose difference places are i and j
+pub record Passed (outside fine : Bool) (i j : ℕ) (row : Row) (smaller larger balance lower upper : ℕ) : Type 0 where
   pub inside : outside ≡ false
   pub passed : fine ≡ true
   pub left : smaller ≡ row .left
   pub right : larger ≡ row .right
   pub balanced : balance ≡ row .balance
+  pub below : lower ≡ i
+  pub above : upper ≡ j
 
 -- a visit that finds the node fine
-pub fine-found : (outside fine : Bool) (row : Row) (smaller larger balance : ℕ)
-    → visitedBy outside fine row ≡ Fine smaller larger balance
-    → Passed outside fine row smaller larger balance
-fine-found true fine row x y z e = record { inside = cc; passed = cc; left = cc; right = cc; balanced = cc }
-fine-found false true row x y z e = record { inside = refl; passed = refl; left = cc; right = cc; balanced = cc }
-fine-found false false row x y z e = record { inside = refl; passed = cc; left = cc; right = cc; balanced = cc }
+pub fine-found : (outside fine : Bool) (i j : ℕ) (row : Row) (smaller larger balance lower upper : ℕ)
+    → visitedBy outside (bothWhen fine i j) row ≡ Fine smaller larger balance lower upper
+    → Passed outside fine i j row smaller larger balance lower upper
+fine-found true fine i j row x y z p q e =
+    record { inside = cc; passed = cc; left = cc; right = cc; balanced = cc; below = cc; above = cc }
+fine-found false true i j row x y z p q e =
+    record { inside = refl; passed = refl; left = cc; right = cc; balanced = cc; below = cc; above = cc }
+fine-found false false i j row x y z p q e =
+    record { inside = refl; passed = cc; left = cc; right = cc; balanced = cc; below = cc; above = cc }
 
 module _ (limits : Limits) (table store : List ℕ) where
   -- a node that passes has a label that lies in its part of the store
@@ -56,14 +63,15 @@ module _ (limits : Limits) (table store : List ℕ) (k below above : ℕ) where
   unfolding visited
   visit-outside h = rw (lt-ltb _ _ h)
 
-  module _ (row : Row) (read : row ≡ rowAt table k) (inside : k ≤ limits .slots) (t : Bool)
-      (tested : t ≡ fineBetween limits table store k below above) where
+  module _ (row : Row) (read : row ≡ rowAt table k) (inside : k ≤ limits .slots) (both : Gaps)
+      (tested : both ≡ fineGaps limits table store k below above) where
     -- the node's test fails
-    pub visit-wrong : t ≡ false → Wrong ≡ visited limits table store k below above
+    pub visit-wrong : both ≡ Broken → Wrong ≡ visited limits table store k below above
     unfolding visited
     visit-wrong f = rw (le-ltb _ _ inside, sym tested ∙ f)
 
     -- the node's test passes
-    pub visit-fine : t ≡ true → Fine (row .left) (row .right) (row .balance) ≡ visited limits table store k below above
+    pub visit-fine : (p q : ℕ) → both ≡ Both p q
+        → Fine (row .left) (row .right) (row .balance) p q ≡ visited limits table store k below above
     unfolding visited
-    visit-fine e = rw (le-ltb _ _ inside, sym tested ∙ e, read)
+    visit-fine p q e = rw (le-ltb _ _ inside, sym tested ∙ e, read)

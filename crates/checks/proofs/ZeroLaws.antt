@@ -1,18 +1,23 @@
 -- Zeros in a list, tested one after the other or several at once.
 -- `zeros-done`, `zeros-broken`, `zeros-next`: what a test of one number after the other finds at an index.
 -- `zeros-broken-by`, `zeros-on-by`: what a test of several numbers at once finds there.
--- `four-words-zero`, `eight-bytes-zero`: several numbers are zero where the one number made of them is.
-use Prim.Native.Nat.{ℕ, zero, suc, _+_, _*_, _≤_, _<_}
+-- `four-words-zero`, `packed-zero`: several numbers are zero where the one number made of them is.
+-- `rows-zero`: two rows of numbers are zero where each is.
+-- `passed-start`, `passed-on`, `passed-broken`, `passed-last`: a test of several at once whose last ones may overlap.
+use Prim.Native.Nat.{ℕ, zero, suc, _+_, _*_, _-_, _≤_, _<_}
 use mathlib.Core.Path.{_≡_, refl, sym, ap, _∙_}
 use mathlib.Core.List.{List, [], _∷_, _++_}
 use mathlib.Core.Bool.{Bool, true, false, _&&_}
 use native.Mathlib.Numerals.{add-one}
 use native.Mathlib.Omega.{arith}
 use lib.Dec.{eqb}
-use lib.ListN.{length, getD, take, drop, take-append-drop, drop-of-length-le}
-use lib.Seq.{drop-cons, drop-drop, take-add}
+use lib.ListN.{length, getD, take, drop, take-append-drop, drop-of-length-le, length-drop}
+use lib.Seq.{drop-cons, drop-drop, take-add, take-all}
 use borrow.Author.Tests.{eq-eqb, ne-eqb}
+use Rattle.labels.proofs.Numbers.{Leb, le-yes, le-no, leb-view}
 use Rattle.tables.specs.Sound.{allZero}
+use Rattle.compares.specs.Compares.{Packed, packs-none, packs}
+use Rattle.checks.proofs.PartLaws.{and-left}
 
 -- two lists in a row are zero where each is
 append-zeros : (a b : List ℕ) → allZero (a ++ b) ≡ allZero a && allZero b
@@ -111,15 +116,58 @@ four-words-zero l i r e =
     zero-together r sum (λ z. omega arith) (λ z. omega arith)
     ∙ sym (four-sum l i (i + 1) (i + 2) (i + 3) refl refl refl)
 
--- four bytes, four more, and all eight read as one number
-pub eight-bytes-zero : (l : List ℕ) (i r s : ℕ)
-    → r ≡ getD l i 0 + 256 * getD l (i + 1) 0 + 65536 * getD l (i + 2) 0 + 16777216 * getD l (i + 3) 0
-    → s ≡ getD l (i + 4) 0 + 256 * getD l (i + 5) 0 + 65536 * getD l (i + 6) 0 + 16777216 * getD l (i + 7) 0
-    → eqb (r + 4294967296 * s) 0 ≡ allZero (take 8 (drop i l))
-eight-bytes-zero l i r s e f =
-    let low = getD l i 0 + getD l (i + 1) 0 + (getD l (i + 2) 0 + getD l (i + 3) 0) in
-    let high = getD l (i + 4) 0 + getD l (i + 5) 0 + (getD l (i + 6) 0 + getD l (i + 7) 0) in
-    zero-together (r + 4294967296 * s) (low + high) (λ z. omega arith) (λ z. omega arith)
-    ∙ sym
-    (row-sum l 4 4 i (i + 4) low high refl (four-sum l i (i + 1) (i + 2) (i + 3) refl refl refl)
-    (four-sum l (i + 4) (i + 5) (i + 6) (i + 7) (omega arith) (omega arith) (omega arith)))
+-- bytes packed into one number
+pub packed-zero : {r : ℕ} {l : List ℕ} → Packed r l → eqb r 0 ≡ allZero l
+packed-zero packs-none = refl
+packed-zero (packs a r small rest) =
+    sym (sum-zero a (256 * r))
+    ∙ rw (zero-together (256 * r) r (λ z. omega arith) (λ z. omega arith), packed-zero rest)
+
+-- two rows of n numbers, tested one after the other
+pub rows-zero : (l : List ℕ) (i n m : ℕ) (a b : Bool) → a ≡ allZero (take n (drop i l))
+    → b ≡ allZero (take n (drop (i + n) l)) → n + n ≡ m → a && b ≡ allZero (take m (drop i l))
+rows-zero l i n m a b e f both = rw (e, f, sym both) (sym (take-zeros n n i l))
+
+-- the test of a list from start on has come to i, and passed over zeros only
+pub record PassedTo (l : List ℕ) (start i : ℕ) : Type 0 where
+  pub low : start ≤ i
+  pub same : (j : ℕ) → start ≤ j → j ≤ i → allZero (drop j l) ≡ allZero (drop start l)
+
+-- n zeros at i: it is the same from each of them on
+zeros-within : (l : List ℕ) (i n k : ℕ) → k ≤ n → allZero (take n (drop i l)) ≡ true
+    → allZero (drop (i + k) l) ≡ allZero (drop i l)
+zeros-within l i n k short zeros =
+    let e : k + (n - k) ≡ n = omega arith in
+    let some = and-left (allZero (take k (drop i l))) _ (sym (take-zeros k (n - k) i l) ∙ rw e zeros) in
+    sym (split-at k (drop i l) ∙ rw (some, drop-drop k i l))
+
+module _ (l : List ℕ) (start i n : ℕ) (b : Bool) (passed : PassedTo l start i)
+    (tested : b ≡ allZero (take n (drop i l))) where
+  -- n numbers at i that are not all zero
+  pub passed-broken : b ≡ false → false ≡ allZero (drop start l)
+  passed-broken f = zeros-broken-by l start i (passed .same i (passed .low) (omega arith)) n b tested f
+
+  -- n zeros at i
+  pub passed-on : b ≡ true → PassedTo l start (i + n)
+  passed-on t = record { low = omega arith; same = λ j from to. go j from to (leb-view j i) }
+    where
+      go : (j : ℕ) → start ≤ j → j ≤ i + n → {c : Bool} → Leb j i c → allZero (drop j l) ≡ allZero (drop start l)
+      go j from to (le-yes before) = passed .same j from before
+      go j from to (le-no after) =
+          let e : i + (j - i) ≡ j = omega arith in
+          rw e at (zeros-within l i n (j - i) (omega arith) (sym tested ∙ t))
+          ∙ passed .same i (passed .low) (omega arith)
+
+-- at the start
+pub passed-start : (l : List ℕ) (start : ℕ) → PassedTo l start start
+passed-start l start =
+    record { low = omega arith; same = λ j from to. let e : j ≡ start = omega arith in rw e }
+
+-- at the last eight
+pub passed-last : (l : List ℕ) (start i last : ℕ) (b : Bool) → PassedTo l start i → start ≤ length l
+    → 8 ≤ length l - start → last ≡ length l - 8 → last ≤ i → b ≡ allZero (take 8 (drop last l))
+    → b ≡ allZero (drop start l)
+passed-last l start i last b passed from long end to tested =
+    tested
+    ∙ ap allZero (take-all 8 (drop last l) (simp length-drop (omega arith)))
+    ∙ passed .same last (omega arith) to

@@ -1,5 +1,6 @@
 -- What the parts of the soundness test take for granted: each caller has tested it before.
-use Prim.Native.Nat.{ℕ, _+_, _-_, _%_, _^_, _≤_}
+use Prim.Native.Nat.{ℕ, _+_, _-_, _%_, _^_, _≤_, max}
+use mathlib.Core.Bool.{true}
 use mathlib.Core.Path.{_≡_}
 use mathlib.Core.List.{List}
 use lib.ListN.{length}
@@ -7,7 +8,9 @@ use Rattle.types.specs.declared.Limits.{Limits}
 use Rattle.types.specs.declared.Row.{Row}
 use Rattle.types.specs.Sizes.{storeLength}
 use Rattle.tables.specs.Words.{highMark, rowAt}
+use Rattle.labels.specs.Neighbours.{Neighbour, difference}
 use Rattle.words.specs.Limits.{SizesFit}
+use Rattle.checks.specs.Check.{isBefore, belowIn, aboveIn}
 use Rattle.checks.specs.declared.Subtree.{Subtree}
 use Rattle.checks.specs.declared.Subtree.the-variants.{Unsound, Sound}
 
@@ -33,28 +36,35 @@ pub record Beside (limits : Limits) (table store : List ℕ) (k : ℕ) : Type 0 
   pub sizes : SizesFit limits table store
   pub window : Window limits table k
 
--- a node whose row was read, between two slots
-pub record NodeFits (limits : Limits) (table store : List ℕ) (k : ℕ) (row : Row) (below above : ℕ) : Type 0 where
+-- two neighbours agree before this place, from which on they may be compared
+pub record MayStart (a b : Neighbour) (from : ℕ) : Type 0 where
+  pub low : 1 ≤ from
+  pub high : from ≤ max 1 (difference a b)
+
+-- the slots of a window, to be read, whose neighbours ascend and part at a place
+pub record Between (limits : Limits) (table store : List ℕ) (below above apart : ℕ) : Type 0 where
   pub sizes : SizesFit limits table store
+  pub lower : Window limits table below
+  pub upper : Window limits table above
+  pub order : isBefore (belowIn limits table store below) (aboveIn limits table store above) ≡ true
+  pub parts : apart ≡ difference (belowIn limits table store below) (aboveIn limits table store above)
+
+-- a node whose row was read, between two slots
+pub record NodeFits (limits : Limits) (table store : List ℕ) (k : ℕ) (row : Row) (below above apart : ℕ) : Type 0 where
   pub low : 1 ≤ k
   pub high : k ≤ limits .slots
   pub read : row ≡ rowAt table k
-  pub lower : Window limits table below
-  pub upper : Window limits table above
+  pub between : Between limits table store below above apart
 
 -- a node to be read, between two slots
-pub record VisitFits (limits : Limits) (table store : List ℕ) (k below above : ℕ) : Type 0 where
-  pub sizes : SizesFit limits table store
+pub record VisitFits (limits : Limits) (table store : List ℕ) (k below above apart : ℕ) : Type 0 where
   pub low : 1 ≤ k
-  pub lower : Window limits table below
-  pub upper : Window limits table above
+  pub between : Between limits table store below above apart
 
 -- a subtree between two slots
-pub record WalkFits (limits : Limits) (table store : List ℕ) (left below above : ℕ) : Type 0 where
-  pub sizes : SizesFit limits table store
+pub record WalkFits (limits : Limits) (table store : List ℕ) (left below above apart : ℕ) : Type 0 where
   pub deep : left ≤ 64
-  pub lower : Window limits table below
-  pub upper : Window limits table above
+  pub between : Between limits table store below above apart
 
 -- a subtree at most n nodes deep has a height of at most n, and fewer than 2 ^ n nodes
 abbrev pub Small : ℕ → Subtree → Type 0

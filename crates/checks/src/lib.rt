@@ -21,13 +21,21 @@ pub enum Gap {
     Place(usize),
 }
 
-// What the test of a node finds: it is not as it must be, or its links and its balance word.
+// How a label lies between its neighbours: not in order, or its difference places with both.
+pub enum Gaps {
+    Broken,
+    Both { lower: usize, upper: usize },
+}
+
+// What the test of a node finds: it is not as it must be, or its links, its balance word and its difference places.
 pub enum Node {
     Wrong,
     Fine {
         smaller: usize,
         larger: usize,
         balance: u16,
+        lower: usize,
+        upper: usize,
     },
 }
 
@@ -54,7 +62,16 @@ pub fn sound_within(limits: Limits, table: &[u16], store: &[u8]) -> bool
     if !walks::unused_slots(limits, table, store, high) {
         return false;
     }
-    let tree = walks::check_tree(limits, table, store, limits.depth, table[0] as usize, 0, 0);
+    let tree = walks::check_tree(
+        limits,
+        table,
+        store,
+        limits.depth,
+        table[0] as usize,
+        0,
+        0,
+        0,
+    );
     if !count_is(held, tree) {
         return false;
     }

@@ -1,6 +1,7 @@
 // The test of one node: its words and bytes, its order between its neighbours, its place and side;
 // and that of a freed slot.
 use crate::Gap;
+use crate::Gaps;
 use compares::Order;
 use types::Limits;
 use types::Row;
@@ -11,8 +12,9 @@ ghost use Rattle.labels.specs.Neighbours.{held};
 ghost use Rattle.tables.specs.Words.{labelAt, partAt, entryAt};
 ghost use Rattle.tables.specs.Sound.{allZero, zeroBesidesLeft};
 ghost use Rattle.checks.specs.Parts.{usedRow, freedRow, gapOf, gapBelow, gapAbove};
-ghost use Rattle.checks.specs.Parts.{fieldsBy, fieldsFine, fineBetween};
-ghost use Rattle.checks.specs.Fits.{PartFits, Beside, NodeFits};
+ghost use Rattle.checks.specs.Parts.{gapsIn, fieldsBy, fieldsFine, fineGaps};
+ghost use Rattle.checks.specs.Check.{belowIn, aboveIn};
+ghost use Rattle.checks.specs.Fits.{PartFits, Beside, MayStart, Between, NodeFits};
 
 // The larger of two numbers.
 pub fn larger(m: usize, n: usize) -> usize
@@ -98,11 +100,12 @@ pub fn freed_row(limits: Limits, store: &[u8], slot: usize, row: Row) -> bool
     part_zero(limits, store, slot, 0)
 }
 
-// The difference place of two labels that are to ascend.
-fn gap(lower: &[u8], upper: &[u8]) -> Gap
+// The difference place of two labels that are to ascend, and that agree before some place.
+fn gap(lower: &[u8], upper: &[u8], from: usize) -> Gap
+    requires { ⌜ MayStart (held (now lower)) (held (now upper)) from ⌝ }
     ensures { λ r. ⌜ r ≡ gapOf (held (now (lower .entry))) (held (now (upper .entry))) ⌝ }
 {
-    let compared = compares::compare(lower, upper, 1);
+    let compared = compares::eights::compare(lower, upper, from);
     let order = compared.order;
     match order {
         Order::Smaller => Gap::Place(compared.place),
@@ -122,25 +125,129 @@ fn held_label<'a>(limits: Limits, table: &[u16], store: &'a [u8], slot: usize) -
 }
 
 // The difference place of a label with the one in the slot below, 0 where there is none.
-fn gap_below(limits: Limits, table: &[u16], store: &[u8], label: &[u8], below: usize) -> Gap
+fn gap_below(
+    limits: Limits,
+    table: &[u16],
+    store: &[u8],
+    label: &[u8],
+    below: usize,
+    from: usize,
+) -> Gap
     requires { ⌜ Beside limits (now table) (now store) below ⌝ }
+    requires { ⌜ MayStart (belowIn limits (now table) (now store) below) (held (now label)) from ⌝ }
     ensures { λ r. ⌜ r ≡ gapBelow limits (now (table .entry)) (now (store .entry)) below (now (label .entry)) ⌝ }
 {
     if below == 0 {
         return Gap::Place(0);
     }
-    gap(held_label(limits, table, store, below), label)
+    gap(held_label(limits, table, store, below), label, from)
 }
 
 // The difference place of a label with the one in the slot above, 0 where there is none.
-fn gap_above(limits: Limits, table: &[u16], store: &[u8], label: &[u8], above: usize) -> Gap
+fn gap_above(
+    limits: Limits,
+    table: &[u16],
+    store: &[u8],
+    label: &[u8],
+    above: usize,
+    from: usize,
+) -> Gap
     requires { ⌜ Beside limits (now table) (now store) above ⌝ }
+    requires { ⌜ MayStart (held (now label)) (aboveIn limits (now table) (now store) above) from ⌝ }
     ensures { λ r. ⌜ r ≡ gapAbove limits (now (table .entry)) (now (store .entry)) above (now (label .entry)) ⌝ }
 {
     if above == 0 {
         return Gap::Place(0);
     }
-    gap(label, held_label(limits, table, store, above))
+    gap(label, held_label(limits, table, store, above), from)
+}
+
+// Both difference places, by a full comparison with the label below. The one above is compared only where the first is
+// that of the window, and from there on.
+fn gaps_from_below(
+    limits: Limits,
+    table: &[u16],
+    store: &[u8],
+    label: &[u8],
+    below: usize,
+    above: usize,
+    apart: usize,
+) -> Gaps
+    requires { ⌜ Between limits (now table) (now store) below above apart ⌝ }
+    ensures { λ r. ⌜ r ≡ gapsIn limits (now (table .entry)) (now (store .entry)) below (now (label .entry)) above ⌝ }
+{
+    let lower = gap_below(limits, table, store, label, below, 1);
+    let Gap::Place(p) = lower else {
+        return Gaps::Broken;
+    };
+    if p < apart {
+        return Gaps::Broken;
+    }
+    if apart < p {
+        return Gaps::Both {
+            lower: p,
+            upper: apart,
+        };
+    }
+    let upper = gap_above(limits, table, store, label, above, larger(1, apart));
+    let Gap::Place(q) = upper else {
+        return Gaps::Broken;
+    };
+    Gaps::Both { lower: p, upper: q }
+}
+
+// The same by a full comparison with the label above.
+fn gaps_from_above(
+    limits: Limits,
+    table: &[u16],
+    store: &[u8],
+    label: &[u8],
+    below: usize,
+    above: usize,
+    apart: usize,
+) -> Gaps
+    requires { ⌜ Between limits (now table) (now store) below above apart ⌝ }
+    ensures { λ r. ⌜ r ≡ gapsIn limits (now (table .entry)) (now (store .entry)) below (now (label .entry)) above ⌝ }
+{
+    let upper = gap_above(limits, table, store, label, above, 1);
+    let Gap::Place(q) = upper else {
+        return Gaps::Broken;
+    };
+    if q < apart {
+        return Gaps::Broken;
+    }
+    if apart < q {
+        return Gaps::Both {
+            lower: apart,
+            upper: q,
+        };
+    }
+    let lower = gap_below(limits, table, store, label, below, larger(1, apart));
+    let Gap::Place(p) = lower else {
+        return Gaps::Broken;
+    };
+    Gaps::Both { lower: p, upper: q }
+}
+
+// Both difference places, where the side says with which label the full comparison is the longer one.
+fn gaps(
+    limits: Limits,
+    table: &[u16],
+    store: &[u8],
+    label: &[u8],
+    side: u16,
+    below: usize,
+    above: usize,
+    apart: usize,
+) -> Gaps
+    requires { ⌜ Between limits (now table) (now store) below above apart ⌝ }
+    ensures { λ r. ⌜ r ≡ gapsIn limits (now (table .entry)) (now (store .entry)) below (now (label .entry)) above ⌝ }
+{
+    if side == 0 {
+        gaps_from_below(limits, table, store, label, below, above, apart)
+    } else {
+        gaps_from_above(limits, table, store, label, below, above, apart)
+    }
 }
 
 // Whether place and side are those of the two difference places.
@@ -153,21 +260,21 @@ fn fields_by(place: usize, side: usize, below: usize, above: usize) -> bool
     if above <= below { side == 0 } else { side == 1 }
 }
 
-// Whether a node lies between its neighbours, with their place and side.
-fn fields_fine(row: Row, lower: Gap, upper: Gap) -> bool
-    ensures { λ r. ⌜ r ≡ fieldsFine row lower upper ⌝ }
+// The difference places of a node whose place and side are by them.
+fn fields_fine(row: Row, both: Gaps) -> Gaps
+    ensures { λ r. ⌜ r ≡ fieldsFine row both ⌝ }
 {
-    match lower {
-        Gap::Wrong => false,
-        Gap::Place(p) => match upper {
-            Gap::Wrong => false,
-            Gap::Place(q) => fields_by(row.place as usize, row.side as usize, p, q),
-        },
+    let Gaps::Both { lower, upper } = both else {
+        return Gaps::Broken;
+    };
+    if !fields_by(row.place as usize, row.side as usize, lower, upper) {
+        return Gaps::Broken;
     }
+    Gaps::Both { lower, upper }
 }
 
-// The whole test of a node between the slots of its window.
-pub fn node_fine(
+// The whole test of a node between the slots of its window, which part at a place.
+pub fn node_gaps(
     limits: Limits,
     table: &[u16],
     store: &[u8],
@@ -175,15 +282,15 @@ pub fn node_fine(
     row: Row,
     below: usize,
     above: usize,
-) -> bool
-    requires { ⌜ NodeFits limits (now table) (now store) slot row below above ⌝ }
-    ensures { λ r. ⌜ r ≡ fineBetween limits (now (table .entry)) (now (store .entry)) slot below above ⌝ }
+    apart: usize,
+) -> Gaps
+    requires { ⌜ NodeFits limits (now table) (now store) slot row below above apart ⌝ }
+    ensures { λ r. ⌜ r ≡ fineGaps limits (now (table .entry)) (now (store .entry)) slot below above ⌝ }
 {
     if !used_row(limits, store, slot, row) {
-        return false;
+        return Gaps::Broken;
     }
     let label = label_at(limits, store, slot, row.len as usize);
-    let lower = gap_below(limits, table, store, label, below);
-    let upper = gap_above(limits, table, store, label, above);
-    fields_fine(row, lower, upper)
+    let both = gaps(limits, table, store, label, row.side, below, above, apart);
+    fields_fine(row, both)
 }

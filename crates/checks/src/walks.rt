@@ -1,5 +1,6 @@
 // The walks of the soundness test: over the tree, each node between the slots of its nearest smaller
 // and larger node above, along the free chain, and over the unused rest.
+use crate::Gaps;
 use crate::Node;
 use crate::Subtree;
 use types::Limits;
@@ -55,7 +56,7 @@ fn over_left(balance: u16, h: usize, c: usize, right: Subtree) -> Subtree
     }
 }
 
-// The node in a slot between the slots below and above: what the walk goes on with.
+// The node in a slot between the slots below and above, which part at a place: what the walk goes on with.
 fn visit(
     limits: Limits,
     table: &[u16],
@@ -63,26 +64,31 @@ fn visit(
     slot: usize,
     below: usize,
     above: usize,
+    apart: usize,
 ) -> Node
-    requires { ⌜ VisitFits limits (now table) (now store) slot below above ⌝ }
+    requires { ⌜ VisitFits limits (now table) (now store) slot below above apart ⌝ }
     ensures { λ r. ⌜ r ≡ visited limits (now (table .entry)) (now (store .entry)) slot below above ⌝ }
 {
     if limits.slots < slot {
         return Node::Wrong;
     }
     let row = words::read_row(table, slot);
-    if !crate::nodes::node_fine(limits, table, store, slot, row, below, above) {
+    let both = crate::nodes::node_gaps(limits, table, store, slot, row, below, above, apart);
+    let Gaps::Both { lower, upper } = both else {
         return Node::Wrong;
-    }
+    };
     Node::Fine {
         smaller: row.left as usize,
         larger: row.right as usize,
         balance: row.balance,
+        lower,
+        upper,
     }
 }
 
-// The subtree at a link, at most `left` nodes deep, between the nodes in the slots `below` and `above`, 0 for none.
-// It ends at the first node that is not as it must be.
+// The subtree at a link, at most `left` nodes deep, between the nodes in the slots `below` and `above`, 0 for none,
+// whose difference place is `apart`, 0 where one is missing.
+// It ends at the first node that is not as it must be, and makes no call for a link 0.
 pub fn check_tree(
     limits: Limits,
     table: &[u16],
@@ -91,8 +97,9 @@ pub fn check_tree(
     link: usize,
     below: usize,
     above: usize,
+    apart: usize,
 ) -> Subtree
-    requires { ⌜ WalkFits limits (now table) (now store) left below above ⌝ }
+    requires { ⌜ WalkFits limits (now table) (now store) left below above apart ⌝ }
     ensures { λ r. ⌜ r ≡ checkTree limits (now (table .entry)) (now (store .entry)) left link below above ⌝ }
 {
     if link == 0 {
@@ -104,20 +111,32 @@ pub fn check_tree(
     if left == 0 {
         return Subtree::Unsound;
     }
-    let node = visit(limits, table, store, link, below, above);
+    let node = visit(limits, table, store, link, below, above, apart);
     let Node::Fine {
         smaller,
         larger,
         balance,
+        lower,
+        upper,
     } = node
     else {
         return Subtree::Unsound;
     };
-    let low = check_tree(limits, table, store, left - 1, smaller, below, link);
+    if smaller == 0 {
+        if larger == 0 {
+            return over_sound(balance, 0, 0, 0, 0);
+        }
+        let only = check_tree(limits, table, store, left - 1, larger, link, above, upper);
+        return over_left(balance, 0, 0, only);
+    }
+    let low = check_tree(limits, table, store, left - 1, smaller, below, link, lower);
     let Subtree::Sound { height, count } = low else {
         return Subtree::Unsound;
     };
-    let high = check_tree(limits, table, store, left - 1, larger, link, above);
+    if larger == 0 {
+        return over_sound(balance, height, count, 0, 0);
+    }
+    let high = check_tree(limits, table, store, left - 1, larger, link, above, upper);
     over_left(balance, height, count, high)
 }
 

@@ -1,19 +1,11 @@
 // Whether bytes or words are all zero. Eight bytes are read as one number, which is 0 where each of them is.
 ghost use mathlib.Core.Path.{_≡_};
-ghost use Prim.Native.Nat.{_+_, _*_, _≤_, _<_};
+ghost use Prim.Native.Nat.{_+_, _*_, _≤_};
 ghost use mathlib.Core.List.{[], _∷_};
 ghost use lib.Dec.{eqb};
 ghost use lib.ListN.{length, take, drop};
 ghost use Rattle.tables.specs.Sound.{allZero};
 ghost use Rattle.checks.specs.Fits.{InFours};
-
-// Four bytes as one number.
-fn four_bytes(a: u8, b: u8, c: u8, d: u8) -> u64
-    ensures { λ r. ⌜ r ≡ a + 256 * b + 65536 * c + 16777216 * d ⌝ }
-    ensures { λ r. ⌜ r < 4294967296 ⌝ }
-{
-    a as u64 + 256 * b as u64 + 65536 * c as u64 + 16777216 * d as u64
-}
 
 // Four words as one number.
 fn four_words(a: u16, b: u16, c: u16, d: u16) -> u64
@@ -27,9 +19,23 @@ fn eight_zero(bytes: &[u8], i: usize) -> bool
     requires { ⌜ i + 8 ≤ length (now bytes) ⌝ }
     ensures { λ r. ⌜ r ≡ allZero (take 8 (drop i (now (bytes .entry)))) ⌝ }
 {
-    let low = four_bytes(bytes[i], bytes[i + 1], bytes[i + 2], bytes[i + 3]);
-    let high = four_bytes(bytes[i + 4], bytes[i + 5], bytes[i + 6], bytes[i + 7]);
-    low + 4294967296 * high == 0
+    compares::eights::eight_at(bytes, i) == 0
+}
+
+// Whether the sixteen bytes from i on are zero.
+fn sixteen_zero(bytes: &[u8], i: usize) -> bool
+    requires { ⌜ i + 16 ≤ length (now bytes) ⌝ }
+    ensures { λ r. ⌜ r ≡ allZero (take 16 (drop i (now (bytes .entry)))) ⌝ }
+{
+    eight_zero(bytes, i) & eight_zero(bytes, i + 8)
+}
+
+// Whether the thirty-two bytes from i on are zero.
+fn thirty_two_zero(bytes: &[u8], i: usize) -> bool
+    requires { ⌜ i + 32 ≤ length (now bytes) ⌝ }
+    ensures { λ r. ⌜ r ≡ allZero (take 32 (drop i (now (bytes .entry)))) ⌝ }
+{
+    sixteen_zero(bytes, i) & sixteen_zero(bytes, i + 16)
 }
 
 // Whether the four words from i on are zero.
@@ -55,19 +61,30 @@ fn last_bytes_zero(bytes: &[u8], start: usize) -> bool
     true
 }
 
-// Whether all bytes from start on are zero.
+// Whether all bytes from start on are zero: by thirty-two, by eight, and at last the last eight, of which some may have
+// been tested before.
 pub fn bytes_zero(bytes: &[u8], start: usize) -> bool
     requires { ⌜ start ≤ length (now bytes) ⌝ }
     ensures { λ r. ⌜ r ≡ allZero (drop start (now (bytes .entry))) ⌝ }
 {
+    if bytes.len() - start < 8 {
+        return last_bytes_zero(bytes, start);
+    }
+    let last = bytes.len() - 8;
     let mut i = start;
-    while 8 <= bytes.len() - i {
+    while i + 24 <= last {
+        if !thirty_two_zero(bytes, i) {
+            return false;
+        }
+        i += 32;
+    }
+    while i < last {
         if !eight_zero(bytes, i) {
             return false;
         }
         i += 8;
     }
-    last_bytes_zero(bytes, i)
+    eight_zero(bytes, last)
 }
 
 // Whether all words from start on are zero, where their number is a multiple of four.

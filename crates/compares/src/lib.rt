@@ -1,9 +1,12 @@
-// The comparison of two labels from a place on, by the numbers that their bytes stand for.
-// It reads no byte after the place at which it ends.
+// The comparison of two labels from a place on, by the numbers that their bytes stand for. `compare` reads the byte at
+// each place once, in order, and none after the place at which it ends; the comparison in `eights` reads further.
+pub mod eights;
+
 ghost use mathlib.Core.Path.{_≡_};
-ghost use Prim.Native.Nat.{min};
+ghost use Prim.Native.Nat.{_+_, _≤_, min};
 ghost use Rattle.labels.specs.Labels.{numberOf, compareFrom};
-ghost use Rattle.compares.specs.Compares.{comparisonOf, differ, unlike, atEnd, StartsWithin, EndsWithin};
+ghost use Rattle.compares.specs.Compares.{comparisonOf, differ, unlike, atEnd, rest, restAfter};
+ghost use Rattle.compares.specs.Compares.{StartsWithin, EndsWithin, EndsAt, HavePlaces};
 
 // How the first of two labels lies to the second.
 pub enum Order {
@@ -16,6 +19,12 @@ pub enum Order {
 pub struct Compared {
     pub order: Order,
     pub place: usize,
+}
+
+// How two labels run over some places in turn: so many alike, and their order where they part before the last.
+pub struct Run {
+    pub order: Order,
+    pub same: usize,
 }
 
 // The number that stands for a byte at its place.
@@ -63,18 +72,68 @@ fn at_end(m: usize, n: usize, i: usize) -> Order
     Order::Same
 }
 
-// How x lies to y by the places from d on.
-pub fn compare(x: &[u8], y: &[u8], d: usize) -> Compared
-    requires { ⌜ StartsWithin d (now y) ⌝ }
-    ensures { λ r. ⌜ comparisonOf r ≡ compareFrom d (now (x .entry)) (now (y .entry)) ⌝ }
-    ensures { λ r. ⌜ EndsWithin d (now (y .entry)) (r .place) ⌝ }
+// The place at the index i.
+fn one(x: &[u8], y: &[u8], i: usize) -> Run
+    requires { ⌜ HavePlaces 1 (now x) (now y) i ⌝ }
+    ensures { λ r. ⌜ restAfter 1 (now (x .entry)) (now (y .entry)) i r ≡ rest (now (x .entry)) (now (y .entry)) i ⌝ }
+    ensures { λ r. ⌜ r .same ≤ 1 ⌝ }
 {
-    let mut i = d - 1;
-    let end = shorter(x.len(), y.len());
+    let a = x[i];
+    let b = y[i];
+    if differ(a, b) {
+        let order = unlike(a, b);
+        return Run { order, same: 0 };
+    }
+    Run {
+        order: Order::Same,
+        same: 1,
+    }
+}
+
+// The two places from the index i on.
+fn two(x: &[u8], y: &[u8], i: usize) -> Run
+    requires { ⌜ HavePlaces 2 (now x) (now y) i ⌝ }
+    ensures { λ r. ⌜ restAfter 2 (now (x .entry)) (now (y .entry)) i r ≡ rest (now (x .entry)) (now (y .entry)) i ⌝ }
+    ensures { λ r. ⌜ r .same ≤ 2 ⌝ }
+{
+    let former = one(x, y, i);
+    if former.same < 1 {
+        return former;
+    }
+    let latter = one(x, y, i + 1);
+    let order = latter.order;
+    let same = 1 + latter.same;
+    Run { order, same }
+}
+
+// The three places from the index i on.
+fn three(x: &[u8], y: &[u8], i: usize) -> Run
+    requires { ⌜ HavePlaces 3 (now x) (now y) i ⌝ }
+    ensures { λ r. ⌜ restAfter 3 (now (x .entry)) (now (y .entry)) i r ≡ rest (now (x .entry)) (now (y .entry)) i ⌝ }
+    ensures { λ r. ⌜ r .same ≤ 3 ⌝ }
+{
+    let former = two(x, y, i);
+    if former.same < 2 {
+        return former;
+    }
+    let latter = one(x, y, i + 2);
+    let order = latter.order;
+    let same = 2 + latter.same;
+    Run { order, same }
+}
+
+// How x lies to y by the places after the index from, one by one; the shorter label ends at `end`.
+fn by_one(x: &[u8], y: &[u8], from: usize, end: usize) -> Compared
+    requires { ⌜ EndsAt (now x) (now y) from end ⌝ }
+    ensures { λ r. ⌜ comparisonOf r ≡ rest (now (x .entry)) (now (y .entry)) from ⌝ }
+    ensures { λ r. ⌜ EndsWithin (from + 1) (now (y .entry)) (r .place) ⌝ }
+{
+    let mut i = from;
     while i < end {
-        if differ(x[i], y[i]) {
-            let order = unlike(x[i], y[i]);
-            let place = i + 1;
+        let run = one(x, y, i);
+        if run.same < 1 {
+            let order = run.order;
+            let place = i + run.same + 1;
             return Compared { order, place };
         }
         i += 1;
@@ -82,4 +141,43 @@ pub fn compare(x: &[u8], y: &[u8], d: usize) -> Compared
     let order = at_end(x.len(), y.len(), i);
     let place = i + 1;
     Compared { order, place }
+}
+
+// The same, by threes as long as both labels have them.
+fn by_three(x: &[u8], y: &[u8], from: usize, end: usize) -> Compared
+    requires { ⌜ EndsAt (now x) (now y) from end ⌝ }
+    ensures { λ r. ⌜ comparisonOf r ≡ rest (now (x .entry)) (now (y .entry)) from ⌝ }
+    ensures { λ r. ⌜ EndsWithin (from + 1) (now (y .entry)) (r .place) ⌝ }
+{
+    let mut i = from;
+    while i + 3 <= end {
+        let run = three(x, y, i);
+        if run.same < 3 {
+            let order = run.order;
+            let place = i + run.same + 1;
+            return Compared { order, place };
+        }
+        i += 3;
+    }
+    by_one(x, y, i, end)
+}
+
+// How x lies to y by the places from d on. Most searches part at place d: it stands before the threes.
+pub fn compare(x: &[u8], y: &[u8], d: usize) -> Compared
+    requires { ⌜ StartsWithin d (now y) ⌝ }
+    ensures { λ r. ⌜ comparisonOf r ≡ compareFrom d (now (x .entry)) (now (y .entry)) ⌝ }
+    ensures { λ r. ⌜ EndsWithin d (now (y .entry)) (r .place) ⌝ }
+{
+    let first = d - 1;
+    let end = shorter(x.len(), y.len());
+    if end <= first {
+        let order = at_end(x.len(), y.len(), first);
+        return Compared { order, place: d };
+    }
+    let run = one(x, y, first);
+    if run.same < 1 {
+        let order = run.order;
+        return Compared { order, place: d };
+    }
+    by_three(x, y, d, end)
 }

@@ -1,32 +1,30 @@
--- The answer of a walk, by the visit that a loop makes.
--- `walk-missing`: at an empty link the label is absent.  `walk-broken`: a broken walk is refused.
--- `walk-found`: where the label is found, the walk ends.  `walk-onward`: elsewhere it goes on with the same answer.
+-- The answer of a walk, by the node that a loop has reached.
+-- `walk-halted`: where there is no node to visit, it ends.  `walk-found`: where the label is found, it ends.
+-- `Reached`: the invariant of the loop.  `reached-root`: at the root.  `reached-son`: after a node's step.
 -- `outcome-walked`: the outcome of a search that nothing turns away.
 use mathlib.Core.Path.{_≡_, refl, sym, ap, _∙_}
 use mathlib.Core.Logic.{_≢_}
-use mathlib.Core.List.{List}
-use mathlib.Core.Bool.{Bool, true, false, _||_}
-use Prim.Native.Nat.{ℕ, zero, suc, _+_, _-_, _≤_, _<_}
+use mathlib.Core.List.{List, [], _∷_}
+use mathlib.Core.Bool.{Bool, true, false, _||_, true≢false}
+use Prim.Native.Nat.{ℕ, zero, suc, _+_, _-_, _*_, _≤_}
 use native.Mathlib.Omega.{arith}
-use lib.Dec.{ltb, leb}
-use lib.ListN.{length}
-use borrow.Author.Tests.{le-ltb, lt-leb, eq-eqb, ne-eqb}
+use lib.Dec.{ltb, eqb}
+use lib.ListN.{length, getD}
+use borrow.Author.Tests.{le-ltb, eq-eqb, ne-eqb, eqb-true, eqb-false}
 use Rattle.types.specs.declared.Limits.{Limits}
 use Rattle.types.specs.declared.Row.{Row}
 use Rattle.types.specs.declared.SearchAnswer.{SearchAnswer}
+use Rattle.types.specs.declared.SearchAnswer.the-variants.{Found}
 use Rattle.types.specs.Sizes.{tableLength, storeLength}
-use Rattle.types.specs.Answers.{Answer, absent, refused, searchSays}
+use Rattle.types.specs.Answers.{Answer, searchSays}
 use Rattle.labels.specs.Labels.{Label}
-use Rattle.labels.proofs.Numbers.{Leb, le-yes, le-no, leb-view}
 use Rattle.trees.specs.Trees.{Entry}
 use Rattle.tables.specs.Words.{rootLink, rowAt, entryAt}
-use Rattle.tables.specs.Steps.{isBad, stepAt, Walk, broken, ended, visited, walkBy, missing, steps, searchSteps}
-use Rattle.tables.specs.Outcomes.{answerOf, walkAnswer, searchOutcome}
-use Rattle.search.specs.declared.Spot.{Spot}
-use Rattle.search.specs.declared.Step.{Step}
-use Rattle.search.specs.Walks.{brokenAt, stepBy, stepOf, nodeStep, sonOf, spotAfter, foundAt, counted, answerFrom}
-use Rattle.search.specs.Bounds.{Unbroken}
-use Rattle.search.proofs.Rows.{unbroken}
+use Rattle.tables.specs.Steps.{stop, isBad, Walk, broken, ended, visited, walkBy, missing, steps, searchSteps}
+use Rattle.tables.specs.Outcomes.{walkAnswer, searchOutcome}
+use Rattle.search.specs.Walks.{haltsAt, stepBy, rowStep, sonOf, haltedAt, counted, answerFrom}
+use Rattle.search.proofs.Rows.{live}
+use Rattle.search.proofs.Moves.{Went}
 
 -- with nothing behind it, a walk's answer is its own
 counted-nothing : (walk : Walk) → counted 0 0 walk ≡ walkAnswer walk
@@ -46,48 +44,34 @@ counted-visited visits places examined e (ended s more) =
     rw (v, p)
 
 module _ (limits : Limits) (table store : List ℕ) (x : Label) where
-  -- the definition's test of a node
-  abbrev test : (link : ℕ) → Bool
-  test link = ltb (limits .slots) link || isBad limits (rowAt table link)
-
   -- at an empty link nothing more is visited
   steps-missing : (left p s : ℕ) → steps limits table store x left 0 p s ≡ missing
   steps-missing zero p s = refl
   steps-missing (suc left) p s = refl
 
-  -- a link too high or a bad row breaks the walk
-  steps-bad : (left link p s : ℕ) → 1 ≤ link → test link ≡ true → steps limits table store x left link p s ≡ broken
-  steps-bad left zero p s some bad = absurd (omega arith)
-  steps-bad zero (suc k) p s some bad = refl
-  steps-bad (suc left) (suc k) p s some bad = rw (bad, steps)
-
-  -- so does a node too many
-  steps-deep : (link p s : ℕ) → 1 ≤ link → steps limits table store x 0 link p s ≡ broken
-  steps-deep zero p s some = absurd (omega arith)
-  steps-deep (suc k) p s some = refl
-
-  -- the code's test finds each
-  steps-broken : (link visits p s : ℕ) → 1 ≤ link → brokenAt limits table link visits ≡ true
-      → steps limits table store x (limits .depth - visits) link p s ≡ broken
-  unfolding brokenAt
-  steps-broken link visits p s some = go (leb-view (limits .depth) visits)
-    where
-      go : {b : Bool} → Leb (limits .depth) visits b → (b || test link) ≡ true
-          → steps limits table store x (limits .depth - visits) link p s ≡ broken
-      go (le-yes deep) is = let e : limits .depth - visits ≡ 0 = omega arith in rw e (steps-deep link p s some)
-      go (le-no room) is = steps-bad (limits .depth - visits) link p s some is
+  -- a node too many, a link too high or a bad row breaks the walk
+  steps-broken : (left link p s : ℕ) → link ≢ 0
+      → (eqb left 0 || (ltb (limits .slots) link || isBad limits (rowAt table link))) ≡ true
+      → steps limits table store x left link p s ≡ broken
+  steps-broken left zero p s some bad = absurd (some refl)
+  steps-broken zero (suc k) p s some bad = refl
+  steps-broken (suc left) (suc k) p s some bad =
+      let room : suc left ≢ 0 = λ e. omega arith in rw (rw (ne-eqb _ _ room) at bad, steps)
 
   -- any other node takes its step
-  steps-node : (left link p s : ℕ) → 1 ≤ left → 1 ≤ link → test link ≡ false
+  steps-node : (left link p s : ℕ) → haltsAt limits table link left ≡ false
       → steps limits table store x left link p s
-      ≡ walkBy
-      (stepAt x (entryAt limits table store link .label) (rowAt table link .side) (rowAt table link .place) p s)
-      (entryAt limits table store link)
+      ≡ walkBy (rowStep limits store x link (rowAt table link) p s) (entryAt limits table store link)
       (steps limits table store x (left - 1) (rowAt table link .left))
       (steps limits table store x (left - 1) (rowAt table link .right))
-  steps-node zero link p s more some fine = absurd (omega arith)
-  steps-node (suc left) zero p s more some fine = absurd (omega arith)
-  steps-node (suc left) (suc k) p s more some fine = let e : suc left - 1 ≡ left = omega arith in rw (fine, steps, e)
+  unfolding haltsAt rowStep
+  steps-node zero zero p s fine = absurd (true≢false fine)
+  steps-node zero (suc k) p s fine = absurd (true≢false (rw (ne-eqb (suc k) 0 (λ e. omega arith)) at fine))
+  steps-node (suc left) zero p s fine = absurd (true≢false fine)
+  steps-node (suc left) (suc k) p s fine =
+      let e : suc left - 1 ≡ left = omega arith in
+      let passed = rw (ne-eqb (suc k) 0 (λ z. omega arith), ne-eqb (suc left) 0 (λ z. omega arith)) at fine in
+      rw (passed, steps, e)
 
   -- the walk from a node on goes into the son that its step takes
   counted-onward : (left visits places p s examined : ℕ) (row : Row) (right : Bool) (e : Entry)
@@ -102,65 +86,110 @@ module _ (limits : Limits) (table store : List ℕ) (x : Label) where
   counted-onward left visits places p s examined row false e =
       counted-visited visits places examined e (steps limits table store x left (row .left) p s)
 
-  -- where the walk from a start has come to the spot w, whose link is not empty
-  module _ (start w : Spot) (so : answerFrom limits table store x w ≡ answerFrom limits table store x start) where
-    abbrev whole : Answer
-    whole = answerFrom limits table store x start
+  -- a walk at a link whose answer from there on is the whole answer
+  module _ (link left places : ℕ) (ends : List ℕ) (whole : Answer)
+      (so : answerFrom limits table store x link left places ends ≡ whole)
+      (tested : Bool) (test : tested ≡ haltsAt limits table link left) where
+    abbrev visits : ℕ
+    visits = limits .depth - left
 
-    -- at an empty link the label is absent
-    pub walk-missing : w .link ≡ 0 → absent (w .visits) (w .places) ≡ whole
-    unfolding answerFrom
-    walk-missing none =
-        let v : w .visits + 0 ≡ w .visits = omega arith in
-        let p : w .places + 0 ≡ w .places = omega arith in
-        rw (none, steps-missing, v, p) at so
+    -- where there is no node to visit, it ends
+    pub walk-halted : (a : SearchAnswer) → tested ≡ true → a ≡ haltedAt link visits places → searchSays a ≡ whole
+    unfolding answerFrom haltsAt
+    walk-halted a is said = go (eqb link 0) refl (sym test ∙ is) said
+      where
+        go : (b : Bool) → eqb link 0 ≡ b
+            → (b || (eqb left 0 || (ltb (limits .slots) link || isBad limits (rowAt table link)))) ≡ true
+            → a ≡ haltedAt link visits places → searchSays a ≡ whole
+        go true empty all e =
+            let none = eqb-true link 0 empty in
+            let v : visits + 0 ≡ visits = omega arith in
+            let p : places + 0 ≡ places = omega arith in
+            rw (e, empty) (rw (none, steps-missing, v, p) at so)
+        go false full all e =
+            rw (e, full) (rw (steps-broken left link (getD ends 0 0) (getD ends 1 0) (eqb-false link 0 full) all) at so)
 
-    module _ (some : w .link ≢ 0) (tested : Bool) (test : tested ≡ brokenAt limits table (w .link) (w .visits)) where
-      -- a broken walk is refused
-      pub walk-broken : tested ≡ true → refused 5 ≡ whole
+    module _ (fine : tested ≡ false) (row : Row) (read : row ≡ rowAt table link) where
+      -- elsewhere it is that of the step taken
+      walk-stepped : counted visits places
+          (walkBy (rowStep limits store x link row (getD ends 0 0) (getD ends 1 0)) (entryAt limits table store link)
+          (steps limits table store x (left - 1) (row .left))
+          (steps limits table store x (left - 1) (row .right))) ≡ whole
       unfolding answerFrom
-      walk-broken is = rw (steps-broken (w .link) (w .visits) (w .p) (w .s) (omega arith) (sym test ∙ is)) at so
+      walk-stepped =
+          rw read (sym (ap (counted visits places)
+          (steps-node left link (getD ends 0 0) (getD ends 1 0) (sym test ∙ fine))) ∙ so)
 
-      module _ (t : Step) (fine : tested ≡ false) (step : stepOf t ≡ nodeStep limits table store x w) where
-        -- elsewhere the walk is that of the step taken
-        walk-stepped : counted (w .visits) (w .places)
-            (walkBy (stepOf t) (entryAt limits table store (w .link))
-            (steps limits table store x (limits .depth - (w .visits + 1)) (rowAt table (w .link) .left))
-            (steps limits table store x (limits .depth - (w .visits + 1)) (rowAt table (w .link) .right))) ≡ whole
-        unfolding answerFrom nodeStep brokenAt
-        walk-stepped =
-            let room = unbroken limits table w tested test fine .room in
-            let left = limits .depth - w .visits in
-            let one-less : left - 1 ≡ limits .depth - (w .visits + 1) = omega arith in
-            let passed = rw (lt-leb _ _ room) at (sym test ∙ fine) in
-            rw (step, ← one-less) (sym (ap (counted (w .visits) (w .places))
-            (steps-node left (w .link) (w .p) (w .s) (omega arith) (omega arith) passed)) ∙ so)
+      -- where the label is found, it ends
+      pub walk-found : (examined more : ℕ) (a : SearchAnswer)
+          → stop examined ≡ rowStep limits store x link row (getD ends 0 0) (getD ends 1 0)
+          → a ≡ Found link (row .value) (visits + 1) more → more ≡ places + examined → searchSays a ≡ whole
+      walk-found examined more a step e sum =
+          let none : examined + 0 ≡ examined = omega arith in
+          rw (e, sum, read) (rw (← step, none) at walk-stepped)
 
-        -- where the label is found, the walk ends
-        pub walk-found : (a : SearchAnswer) → t .found ≡ true → a ≡ foundAt w (rowAt table (w .link)) t
-            → searchSays a ≡ whole
-        walk-found a is e =
-            let none : t .examined + 0 ≡ t .examined = omega arith in rw e (rw (is, none) at walk-stepped)
+      -- where it is not, it goes on with the same answer
+      walk-onward : (right : Bool) (next more : ℕ) (after : List ℕ) → left ≤ limits .depth → next ≡ sonOf row right
+          → Went limits store x link row ends places right after more
+          → answerFrom limits table store x next (left - 1) more after ≡ whole
+      unfolding answerFrom
+      walk-onward right next more after within son went =
+          let room = live limits table link left tested test fine .room in
+          let one : limits .depth - (left - 1) ≡ visits + 1 = omega arith in
+          let goes = counted-onward (left - 1) visits places (getD after 0 0) (getD after 1 0) (went .examined) row right
+          (entryAt limits table store link) in
+          rw (son, one, went .sum) (sym goes ∙ rw (← (went .step)) at walk-stepped)
 
-        -- where it is not, the walk goes on with the same answer
-        pub walk-onward : (v : Spot) → t .found ≡ false → v ≡ spotAfter w (rowAt table (w .link)) t
-            → answerFrom limits table store x v ≡ whole
-        unfolding answerFrom
-        walk-onward v is e =
-            let left = limits .depth - (w .visits + 1) in
-            let row = rowAt table (w .link) in
-            let node = entryAt limits table store (w .link) in
-            let goes = counted-onward left (w .visits) (w .places) (t .p) (t .s) (t .examined) row (t .right) node in
-            rw e (sym goes ∙ rw is at walk-stepped)
+-- a walk has reached a link: the counts are within their bounds, and its answer from there on is the whole answer
+pub record Reached (limits : Limits) (table store : List ℕ) (x : Label) (whole : Answer) (link left places : ℕ)
+    (ends : List ℕ) : Type 0 where
+  pub within : left ≤ limits .depth
+  pub few : places ≤ 4097 * (limits .depth - left)
+  pub two : length ends ≡ 2
+  pub so : answerFrom limits table store x link left places ends ≡ whole
+
+-- it goes on to a son
+pub reached-son : (limits : Limits) (table store : List ℕ) (x : Label) (whole : Answer) (link left places : ℕ)
+    (ends : List ℕ) (tested : Bool) (row : Row) (right : Bool) (next more : ℕ) (after : List ℕ)
+    → Reached limits table store x whole link left places ends
+    → tested ≡ haltsAt limits table link left → tested ≡ false → row ≡ rowAt table link → next ≡ sonOf row right
+    → Went limits store x link row ends places right after more
+    → Reached limits table store x whole next (left - 1) more after
+reached-son limits table store x whole link left places ends tested row right next more after at test fine read son went =
+    let room = live limits table link left tested test fine .room in
+    let few = at .few in
+    let within = at .within in
+    let one : limits .depth - (left - 1) ≡ limits .depth - left + 1 = omega arith in
+    let sum = went .sum in
+    let few-more = went .few in
+    record {
+      within = omega arith;
+      few = rw one (omega arith);
+      two = went .two;
+      so = walk-onward limits table store x link left places ends whole (at .so) tested test fine row read right next more
+          after (at .within) son went;
+    }
+
+-- at the root nothing is behind it
+pub reached-root : (limits : Limits) (table store : List ℕ) (x : Label) (root : ℕ)
+    → Reached limits table store x (walkAnswer (steps limits table store x (limits .depth) root 1 1))
+    root (limits .depth) 0 (1 ∷ (1 ∷ []))
+unfolding answerFrom
+reached-root limits table store x root =
+    let none : limits .depth - limits .depth ≡ 0 = omega arith in
+    record {
+      within = omega arith;
+      few = omega arith;
+      two = refl;
+      so = rw none (counted-nothing (steps limits table store x (limits .depth) root 1 1));
+    }
 
 -- the outcome of a search that nothing turns away is the answer of the walk from the root
 pub outcome-walked : (limits : Limits) (table store : List ℕ) (x : Label) (a : Answer)
     → length table ≡ tableLength limits → length store ≡ storeLength limits → (length x ≡ 0 → ⊥)
     → length x ≤ limits .width
-    → a ≡ answerFrom limits table store x (record { link = rootLink table; p = 1; s = 1; visits = 0; places = 0 })
+    → a ≡ walkAnswer (steps limits table store x (limits .depth) (rootLink table) 1 1)
     → a ≡ searchOutcome limits table store x
-unfolding answerFrom searchOutcome searchSteps
+unfolding searchOutcome searchSteps
 outcome-walked limits table store x a words bytes some short so =
-    let all : limits .depth - 0 ≡ limits .depth = omega arith in
-    simp (eq-eqb _ _ words, eq-eqb _ _ bytes, ne-eqb _ _ some, le-ltb _ _ short)
-    (so ∙ rw all (counted-nothing (steps limits table store x (limits .depth) (rootLink table) 1 1)))
+    simp (eq-eqb _ _ words, eq-eqb _ _ bytes, ne-eqb _ _ some, le-ltb _ _ short) so

@@ -1,13 +1,16 @@
 -- The step at one node, by its turn.
 -- `decide-smaller`, `decide-same`, `decide-larger`: the step after a comparison, by its order.
--- `compared-of`: the bytes compared are the label of the slot.
--- `visit-left`, `visit-right`, `visit-compared`: the step at the node, by its turn.
+-- `compared-row`: the bytes compared are the label of the slot.
+-- `turn-level`: the turn where the walk has reached the node's place.
+-- `row-left`, `row-right`, `row-compared`: the step at the node, by its turn.  `after-step`: the spot after it.
 use mathlib.Core.Path.{_≡_, refl, sym, _∙_}
 use mathlib.Core.List.{List}
+use mathlib.Core.Bool.{Bool, true, false, cond}
 use Prim.Native.Nat.{ℕ, zero, suc, _+_, _-_, _≤_, compare, Ordering, Ordering·lt, Ordering·eq, Ordering·gt}
 use Prim.Native.Nat.{compare·suc-zero}
 use native.Mathlib.Numerals.{add-one}
 use native.Mathlib.Omega.{arith}
+use lib.Dec.{eqb}
 use lib.ListN.{take, drop}
 use borrow.Author.Tests.{lt-ltb, le-ltb}
 use Rattle.types.specs.declared.Limits.{Limits}
@@ -17,12 +20,13 @@ use Rattle.labels.proofs.Numbers.{Ordered, is-lt, is-eq, is-gt, ordered}
 use Rattle.compares.specs.declared.Compared.{Compared}
 use Rattle.compares.specs.declared.Order.the-variants.{Smaller, Same, Larger}
 use Rattle.compares.specs.Compares.{comparisonOf}
-use Rattle.tables.specs.Words.{rowAt, labelAt, partStart}
+use Rattle.tables.specs.Words.{labelAt, partStart}
 use Rattle.tables.specs.Steps.{Step, go-left, go-right, stop, compareStep, predecessorStep, successorStep, stepAt}
 use Rattle.search.specs.declared.Spot.{Spot}
+use Rattle.search.specs.declared.Step as code
 use Rattle.search.specs.declared.Turn.{Turn}
 use Rattle.search.specs.declared.Turn.the-variants.{Left, Right, Compare}
-use Rattle.search.specs.Walks.{turnBy, turnOf, comparedStep, nodeStep}
+use Rattle.search.specs.Walks.{reachedOn, turnBy, turnOf, rowStep, sonOf, spotAfter}
 
 -- the step after a comparison c that started at place d, by its order
 module _ (p s d : ℕ) (c : Compared) where
@@ -39,14 +43,13 @@ module _ (p s d : ℕ) (c : Compared) where
   decide-larger e = rw (e, add-one (c .place))
 
 -- a comparison with the bytes of the store is one with the slot's label
-pub compared-of : (limits : Limits) (store : List ℕ) (x : Label) (w : Spot) (row : Row) (t : Step)
-    (at : ℕ) (c : Compared) → at ≡ partStart limits (w .link)
+pub compared-row : (limits : Limits) (store : List ℕ) (x : Label) (link : ℕ) (row : Row) (at : ℕ) (c : Compared)
+    → at ≡ partStart limits link
     → comparisonOf c ≡ compareFrom (row .place) x (take (at + row .len - at) (drop at store))
-    → t ≡ compareStep (comparisonOf c) (row .place) (w .p) (w .s)
-    → t ≡ comparedStep limits store x w row
-unfolding comparedStep labelAt
-compared-of limits store x w row t at c start found so =
-    let e : at + row .len - at ≡ row .len = omega arith in rw (← start, ← (rw e at found)) so
+    → comparisonOf c ≡ compareFrom (row .place) x (labelAt limits store link (row .len))
+unfolding labelAt
+compared-row limits store x link row at c start found =
+    let e : at + row .len - at ≡ row .len = omega arith in rw (← start) (rw e at found)
 
 -- the turn by the order of P or S and the place
 abbrev turnOn : Ordering → Turn → Turn → Turn
@@ -62,6 +65,15 @@ turn-by {m} {d} below above (is-eq equal) =
     let high : m ≤ d = omega arith in
     rw (le-ltb m d low, le-ltb d m high)
 turn-by {m} {d} below above (is-gt more) = let low : d ≤ m = omega arith in rw (le-ltb m d low, lt-ltb d m more)
+
+-- where the walk has reached the place, either side compares
+pub turn-level : (side d reached : ℕ) → d ≤ reached → reached ≤ d → Compare ≡ turnOf side d reached
+unfolding turnOf
+turn-level side d reached low high = rw (le-ltb _ _ low, le-ltb _ _ high) (either (eqb side 0))
+  where
+    either : (b : Bool) → Compare ≡ cond b Compare Compare
+    either true = refl
+    either false = refl
 
 -- a turn, taken
 abbrev takenBy : Turn → Step → (p s : ℕ) → Step
@@ -83,7 +95,8 @@ successor-turn Ordering·gt compared p s = refl
 
 -- a node's step is its turn, taken
 turn-step : (x c : Label) (side d p s : ℕ)
-    → stepAt x c side d p s ≡ takenBy (turnOf side d p s) (compareStep (compareFrom d x c) d p s) p s
+    → stepAt x c side d p s
+    ≡ takenBy (turnOf side d (reachedOn side p s)) (compareStep (compareFrom d x c) d p s) p s
 unfolding turnOf
 turn-step x c zero d p s =
     rw (turn-by {m = p} {d = d} Right Left (ordered p d))
@@ -92,20 +105,32 @@ turn-step x c (suc side) d p s =
     rw (compare·suc-zero, turn-by {m = s} {d = d} Left Right (ordered s d))
     (successor-turn (compare s d) (compareStep (compareFrom d x c) d p s) p s)
 
--- the step at the node whose row is read, and whose turn is t
-module _ (limits : Limits) (table store : List ℕ) (x : Label) (w : Spot) (row : Row) (t : Turn)
-    (read : row ≡ rowAt table (w .link)) (turns : t ≡ turnOf (row .side) (row .place) (w .p) (w .s)) where
+-- the step at the node in a slot, whose row is read and whose turn is t
+module _ (limits : Limits) (store : List ℕ) (x : Label) (link : ℕ) (row : Row) (p s reached : ℕ) (t : Turn)
+    (goes : reached ≡ reachedOn (row .side) p s) (turns : t ≡ turnOf (row .side) (row .place) reached) where
+  abbrev here : Step
+  here = rowStep limits store x link row p s
+
+  abbrev label : Label
+  label = labelAt limits store link (row .len)
+
   -- it is the turn, taken
-  node-step : takenBy t (comparedStep limits store x w row) (w .p) (w .s) ≡ nodeStep limits table store x w
-  unfolding nodeStep comparedStep
-  node-step = rw (← read, turn-step, ← turns)
+  row-step : takenBy t (compareStep (compareFrom (row .place) x label) (row .place) p s) p s ≡ here
+  unfolding rowStep
+  row-step = rw (turn-step, ← goes, ← turns)
 
-  pub visit-left : t ≡ Left → go-left (w .p) (w .s) 0 ≡ nodeStep limits table store x w
-  visit-left e = rw e at node-step
+  pub row-left : t ≡ Left → go-left p s 0 ≡ here
+  row-left e = rw e at row-step
 
-  pub visit-right : t ≡ Right → go-right (w .p) (w .s) 0 ≡ nodeStep limits table store x w
-  visit-right e = rw e at node-step
+  pub row-right : t ≡ Right → go-right p s 0 ≡ here
+  row-right e = rw e at row-step
 
-  pub visit-compared : (r : Step) → t ≡ Compare → r ≡ comparedStep limits store x w row
-      → r ≡ nodeStep limits table store x w
-  visit-compared r e so = so ∙ rw e at node-step
+  pub row-compared : (c : Compared) (r : Step) → t ≡ Compare → comparisonOf c ≡ compareFrom (row .place) x label
+      → r ≡ compareStep (comparisonOf c) (row .place) p s → r ≡ here
+  row-compared c r e found so = so ∙ rw found (rw e at row-step)
+
+-- the spot after a step into the son at the link next
+pub after-step : (w : Spot) (row : Row) (t : code.Step) (next : ℕ) → next ≡ sonOf row (t .right)
+    → record { link = next; p = t .p; s = t .s; visits = w .visits + 1; places = w .places + t .examined }
+    ≡ spotAfter w row t
+after-step w row t next e = rw e

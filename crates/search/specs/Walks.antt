@@ -1,36 +1,45 @@
--- The search steps with the counts that the code keeps: what is left of a walk, and its whole answer.
+-- The search steps with the counts that the code keeps: the parts of a node's step, and what is left of a walk.
 use mathlib.Core.List.{List}
 use mathlib.Core.Bool.{Bool, true, false, _||_, cond}
 use Prim.Native.Nat.{ℕ, _+_, _-_}
-use lib.ListN.{length}
-use lib.Dec.{ltb, leb, eqb}
+use lib.ListN.{length, getD}
+use lib.Dec.{ltb, eqb}
 use Rattle.types.specs.declared.Limits.{Limits}
 use Rattle.types.specs.declared.Row.{Row}
 use Rattle.types.specs.declared.SearchAnswer.{SearchAnswer}
-use Rattle.types.specs.declared.SearchAnswer.the-variants.{Found}
+use Rattle.types.specs.declared.SearchAnswer.the-variants.{Absent, Refused}
+use Rattle.types.specs.declared.Refusal.the-variants.{BrokenWalk}
 use Rattle.types.specs.Answers.{Answer, refused}
-use Rattle.labels.specs.Labels.{Label, compareFrom}
+use Rattle.labels.specs.Labels.{Label}
 use Rattle.tables.specs.Words.{rowAt, labelAt}
 use Rattle.tables.specs.Steps as definition
-use Rattle.tables.specs.Steps.{go-left, go-right, stop, isBad, compareStep, stepAt, Walk, broken, ended, steps}
+use Rattle.tables.specs.Steps.{go-left, go-right, stop, isBad, stepAt, Walk, broken, ended, steps}
 use Rattle.tables.specs.Outcomes.{answerOf}
 use Rattle.search.specs.declared.Spot.{Spot}
 use Rattle.search.specs.declared.Step.{Step}
 use Rattle.search.specs.declared.Turn.{Turn}
 use Rattle.search.specs.declared.Turn.the-variants.{Left, Right, Compare}
 
--- x below d: the first; above d: the second; equal: compare
-abbrev pub turnBy : (x d : ℕ) → Turn → Turn → Turn
-turnBy x d below above = cond (ltb x d) below (cond (ltb d x) above Compare)
+-- the number before a place or a link; before 0, which is neither, the largest machine word
+unfoldable pub numberBefore : ℕ → ℕ
+numberBefore n = cond (eqb n 0) 18446744073709551615 (n - 1)
 
--- where a node with this side and place sends the walk
-unfoldable pub turnOf : (side d p s : ℕ) → Turn
-turnOf side d p s = cond (eqb side 0) (turnBy p d Right Left) (turnBy s d Left Right)
+-- whether there is no node to visit at a link, with so many nodes left to visit: it is empty, or the walk is broken
+unfoldable pub haltsAt : Limits → (table : List ℕ) → (link left : ℕ) → Bool
+haltsAt limits table link left =
+    eqb link 0 || (eqb left 0 || (ltb (limits .slots) link || isBad limits (rowAt table link)))
 
--- whether the walk is broken at a link that is not empty, with so many visits behind it
-unfoldable pub brokenAt : Limits → (table : List ℕ) → (link visits : ℕ) → Bool
-brokenAt limits table link visits =
-    leb (limits .depth) visits || (ltb (limits .slots) link || isBad limits (rowAt table link))
+-- the number that a side goes by: P for predecessor, S for successor
+abbrev pub reachedOn : (side p s : ℕ) → ℕ
+reachedOn side p s = cond (eqb side 0) p s
+
+-- reached below d: the first; above d: the second; equal: compare
+abbrev pub turnBy : (reached d : ℕ) → Turn → Turn → Turn
+turnBy reached d below above = cond (ltb reached d) below (cond (ltb d reached) above Compare)
+
+-- where a node with this side and place sends the walk, which has reached the number that the side goes by
+unfoldable pub turnOf : (side d reached : ℕ) → Turn
+turnOf side d reached = cond (eqb side 0) (turnBy reached d Right Left) (turnBy reached d Left Right)
 
 abbrev pub stepBy : (found right : Bool) → (p s examined : ℕ) → definition.Step
 stepBy true right p s examined = stop examined
@@ -41,16 +50,14 @@ stepBy false false p s examined = go-left p s examined
 abbrev pub stepOf : Step → definition.Step
 stepOf t = stepBy (t .found) (t .right) (t .p) (t .s) (t .examined)
 
--- the step after a comparison with the label of the node
-unfoldable pub comparedStep : Limits → (store : List ℕ) → Label → Spot → Row → definition.Step
-comparedStep limits store x w row =
-    compareStep (compareFrom (row .place) x (labelAt limits store (w .link) (row .len))) (row .place) (w .p) (w .s)
+-- the step at the node in a slot, of which the row was read
+unfoldable pub rowStep : Limits → (store : List ℕ) → Label → (link : ℕ) → Row → (p s : ℕ) → definition.Step
+rowStep limits store x link row p s =
+    stepAt x (labelAt limits store link (row .len)) (row .side) (row .place) p s
 
--- the step at the node
-unfoldable pub nodeStep : Limits → (table store : List ℕ) → Label → Spot → definition.Step
-nodeStep limits table store x w =
-    let row = rowAt table (w .link) in
-    stepAt x (labelAt limits store (w .link) (row .len)) (row .side) (row .place) (w .p) (w .s)
+-- the step at the node where the walk stands
+abbrev pub nodeStep : Limits → (table store : List ℕ) → Label → Spot → definition.Step
+nodeStep limits table store x w = rowStep limits store x (w .link) (rowAt table (w .link)) (w .p) (w .s)
 
 -- the link to a son
 unfoldable pub sonOf : Row → (right : Bool) → ℕ
@@ -67,16 +74,16 @@ spotAfter w row t =
       places = w .places + t .examined;
     }
 
--- the answer where the label is found
-abbrev pub foundAt : Spot → Row → Step → SearchAnswer
-foundAt w row t = Found (w .link) (row .value) (w .visits + 1) (w .places + t .examined)
+-- the answer where no node is visited
+abbrev pub haltedAt : (link visits places : ℕ) → SearchAnswer
+haltedAt link visits places = cond (eqb link 0) (Absent visits places) (Refused BrokenWalk)
 
 -- the answer of a walk that has so many visits and places behind it
 abbrev pub counted : (visits places : ℕ) → Walk → Answer
 counted visits places broken = refused 5
 counted visits places (ended s more) = answerOf (s .result) (visits + length (s .visited)) (places + more)
 
--- the answer of the walk that stands at a spot
-unfoldable pub answerFrom : Limits → (table store : List ℕ) → Label → Spot → Answer
-answerFrom limits table store x w =
-    counted (w .visits) (w .places) (steps limits table store x (limits .depth - w .visits) (w .link) (w .p) (w .s))
+-- the answer of a walk that stands at a link, with so many nodes left to visit, P and S in an array, and places
+unfoldable pub answerFrom : Limits → (table store : List ℕ) → Label → (link left places : ℕ) → (ends : List ℕ) → Answer
+answerFrom limits table store x link left places ends =
+    counted (limits .depth - left) places (steps limits table store x left link (getD ends 0 0) (getD ends 1 0))

@@ -1,4 +1,5 @@
-// The step at one node.
+// The step at one node, in parts: whether there is a node to visit, where its place and side send the walk, and the
+// comparison with its label. The search and the search of an update are made of them.
 use crate::Spot;
 use crate::Step;
 use crate::Turn;
@@ -9,66 +10,87 @@ use types::Row;
 ghost use mathlib.Core.Path.{_≡_};
 ghost use Prim.Native.Nat.{_+_, _≤_};
 ghost use Rattle.types.specs.Sizes.{storeLength};
+ghost use Rattle.labels.specs.Labels.{compareFrom};
 ghost use Rattle.compares.specs.Compares.{comparisonOf};
-ghost use Rattle.tables.specs.Words.{partStart};
+ghost use Rattle.tables.specs.Words.{partStart, labelAt};
 ghost use Rattle.tables.specs.Steps.{isBad, compareStep};
-ghost use Rattle.search.specs.Walks.{turnOf, stepOf, comparedStep, nodeStep, brokenAt};
-ghost use Rattle.search.specs.Bounds.{AtSlot, AtRow, AtPlace, AtNode, CanVisit};
+ghost use Rattle.search.specs.Walks.{numberBefore, haltsAt, reachedOn, turnOf, stepOf, rowStep};
+ghost use Rattle.search.specs.Bounds.{AtSlot, AtRow, AtPlace, CanTest};
 
-// Where a node with this side and place sends the walk.
-fn turn(side: u16, d: usize, p: usize, s: usize) -> Turn
-    ensures { λ r. ⌜ r ≡ turnOf side d p s ⌝ }
+// The number before a place or a link; before 0, which is neither, the largest of all.
+fn prior(number: usize) -> usize
+    ensures { λ r. ⌜ r ≡ numberBefore number ⌝ }
 {
-    if side == 0 {
-        if p < d {
-            return Turn::Right;
-        }
-        if d < p {
-            return Turn::Left;
-        }
-        return Turn::Compare;
-    }
-    if s < d {
-        return Turn::Left;
-    }
-    if d < s {
-        return Turn::Right;
-    }
-    Turn::Compare
+    if number == 0 { usize::MAX } else { number - 1 }
 }
 
 // Whether a node's length, place or side breaks the walk.
 fn bad_row(limits: Limits, row: Row) -> bool
     ensures { λ r. ⌜ r ≡ isBad limits row ⌝ }
 {
-    if row.len == 0 {
+    if (row.len == 0) | (limits.width < row.len as usize) {
         return true;
     }
-    if limits.width < row.len as usize {
-        return true;
-    }
-    if row.place == 0 {
-        return true;
-    }
-    if row.len as usize + 1 < row.place as usize {
+    if (row.len as usize) < prior(row.place as usize) {
         return true;
     }
     1 < row.side
 }
 
-// Whether the walk is broken at a link that is not empty.
-pub fn broken(limits: Limits, table: &[u16], spot: Spot) -> bool
-    requires { ⌜ CanVisit limits (now table) spot ⌝ }
-    ensures { λ r. ⌜ r ≡ brokenAt limits (now (table .entry)) (spot .link) (spot .visits) ⌝ }
+// Whether there is no node to visit: the link is empty, or the walk is broken there, with so many nodes left to visit.
+pub fn halts(limits: Limits, table: &[u16], link: usize, left: usize) -> bool
+    requires { ⌜ CanTest limits (now table) ⌝ }
+    ensures { λ r. ⌜ r ≡ haltsAt limits (now (table .entry)) link left ⌝ }
 {
-    if limits.depth <= spot.visits {
+    if limits.slots <= prior(link) {
         return true;
     }
-    if limits.slots < spot.link {
+    if left == 0 {
         return true;
     }
-    let row = words::read_row(table, spot.link);
+    let row = words::read_row(table, link);
     bad_row(limits, row)
+}
+
+// Where a node with this side and place d sends the walk, which has reached P or S, the number that the side goes by.
+pub fn turn(side: usize, d: usize, reached: usize) -> Turn
+    ensures { λ r. ⌜ r ≡ turnOf side d reached ⌝ }
+{
+    if reached < d {
+        if side == 0 {
+            return Turn::Right;
+        }
+        return Turn::Left;
+    }
+    if d < reached {
+        if side == 0 {
+            return Turn::Left;
+        }
+        return Turn::Right;
+    }
+    Turn::Compare
+}
+
+// The first byte of a slot's part of the store.
+fn part_start(limits: Limits, slot: usize) -> usize
+    requires { ⌜ AtSlot limits slot ⌝ }
+    ensures { λ r. ⌜ r ≡ partStart limits slot ⌝ }
+    ensures { λ r. ⌜ r + limits .width ≤ storeLength limits ⌝ }
+{
+    limits.width * (slot - 1)
+}
+
+// The comparison with the label of a node, from the node's place on.
+pub fn compare_row(limits: Limits, store: &[u8], label: &[u8], link: usize, row: Row) -> Compared
+    requires { ⌜ AtRow limits (now store) link row ⌝ }
+    ensures { λ r. ⌜
+        comparisonOf r
+        ≡ compareFrom (row .place) (now (label .entry)) (labelAt limits (now (store .entry)) link (row .len)) ⌝ }
+    ensures { λ r. ⌜ AtPlace (row .place) r ⌝ }
+{
+    let at = part_start(limits, link);
+    let end = at + row.len as usize;
+    compares::compare(label, &store[at..end], row.place as usize)
 }
 
 // The step after a comparison that started at place d.
@@ -105,36 +127,22 @@ fn decide(p: usize, s: usize, d: usize, c: Compared) -> Step
     }
 }
 
-// The first byte of a slot's part of the store.
-fn part_start(limits: Limits, slot: usize) -> usize
-    requires { ⌜ AtSlot limits slot ⌝ }
-    ensures { λ r. ⌜ r ≡ partStart limits slot ⌝ }
-    ensures { λ r. ⌜ r + limits .width ≤ storeLength limits ⌝ }
+// The number that a side goes by: P for predecessor, S for successor.
+fn reached(side: u16, spot: Spot) -> usize
+    ensures { λ r. ⌜ r ≡ reachedOn side (spot .p) (spot .s) ⌝ }
 {
-    limits.width * (slot - 1)
+    if side == 0 { spot.p } else { spot.s }
 }
 
-// The comparison with the label of a node, and the step that follows.
-fn compare_node(limits: Limits, store: &[u8], label: &[u8], spot: Spot, row: Row) -> Step
-    requires { ⌜ AtRow limits (now store) spot row ⌝ }
-    ensures { λ r. ⌜ stepOf r ≡ comparedStep limits (now (store .entry)) (now (label .entry)) spot row ⌝ }
+// The whole step at a node with this row, where the walk is not broken.
+pub fn visit(limits: Limits, store: &[u8], label: &[u8], spot: Spot, row: Row) -> Step
+    requires { ⌜ AtRow limits (now store) (spot .link) row ⌝ }
+    ensures { λ r. ⌜
+        stepOf r ≡ rowStep limits (now (store .entry)) (now (label .entry)) (spot .link) row (spot .p) (spot .s) ⌝ }
     ensures { λ r. ⌜ r .examined ≤ 4097 ⌝ }
 {
     let d = row.place as usize;
-    let at = part_start(limits, spot.link);
-    let end = at + row.len as usize;
-    let c = compares::compare(label, &store[at..end], d);
-    decide(spot.p, spot.s, d, c)
-}
-
-// The step at a node where the walk is not broken.
-pub fn visit(limits: Limits, table: &[u16], store: &[u8], label: &[u8], spot: Spot) -> Step
-    requires { ⌜ AtNode limits (now table) (now store) spot ⌝ }
-    ensures { λ r. ⌜ stepOf r ≡ nodeStep limits (now (table .entry)) (now (store .entry)) (now (label .entry)) spot ⌝ }
-    ensures { λ r. ⌜ r .examined ≤ 4097 ⌝ }
-{
-    let row = words::read_row(table, spot.link);
-    let t = turn(row.side, row.place as usize, spot.p, spot.s);
+    let t = turn(row.side as usize, d, reached(row.side, spot));
     match t {
         Turn::Left => Step {
             found: false,
@@ -150,6 +158,9 @@ pub fn visit(limits: Limits, table: &[u16], store: &[u8], label: &[u8], spot: Sp
             s: spot.s,
             examined: 0,
         },
-        Turn::Compare => compare_node(limits, store, label, spot, row),
+        Turn::Compare => {
+            let c = compare_row(limits, store, label, spot.link, row);
+            decide(spot.p, spot.s, d, c)
+        }
     }
 }

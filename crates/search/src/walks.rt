@@ -1,18 +1,20 @@
 // The walk from the root, and the search with its refusals.
 use crate::Spot;
 use crate::Step;
+use crate::Turn;
 use crate::nodes;
+use compares::Order;
 use types::Limits;
 use types::Refusal;
 use types::Row;
 use types::SearchAnswer;
 ghost use mathlib.Core.Path.{_≡_};
 ghost use Rattle.types.specs.Answers.{searchSays};
-ghost use Rattle.tables.specs.Words.{rowAt};
-ghost use Rattle.tables.specs.Outcomes.{searchOutcome};
-ghost use Rattle.words.specs.Limits.{LimitsFit};
-ghost use Rattle.search.specs.Walks.{sonOf, spotAfter, foundAt, answerFrom};
-ghost use Rattle.search.specs.Bounds.{CanStart, CanStep, Onward};
+ghost use Rattle.tables.specs.Steps.{steps};
+ghost use Rattle.tables.specs.Outcomes.{walkAnswer, searchOutcome};
+ghost use Rattle.words.specs.Limits.{LimitsFit, SizesFit};
+ghost use Rattle.search.specs.Walks.{sonOf, spotAfter, haltedAt};
+ghost use Rattle.search.specs.Bounds.{CanStep, Onward};
 
 // The link to a son.
 fn son(row: Row, right: bool) -> u16
@@ -21,13 +23,12 @@ fn son(row: Row, right: bool) -> u16
     if right { row.right } else { row.left }
 }
 
-// Where the walk stands after a node's step.
-pub fn after(table: &[u16], spot: Spot, step: Step) -> Spot
-    requires { ⌜ CanStep (now table) spot step ⌝ }
-    ensures { λ r. ⌜ r ≡ spotAfter spot (rowAt (now (table .entry)) (spot .link)) step ⌝ }
+// Where the walk stands after the step at a node with this row.
+pub fn after(spot: Spot, row: Row, step: Step) -> Spot
+    requires { ⌜ CanStep spot step ⌝ }
+    ensures { λ r. ⌜ r ≡ spotAfter spot row step ⌝ }
     ensures { λ r. ⌜ Onward spot r ⌝ }
 {
-    let row = words::read_row(table, spot.link);
     let link = son(row, step.right) as usize;
     Spot {
         link,
@@ -38,41 +39,66 @@ pub fn after(table: &[u16], spot: Spot, step: Step) -> Spot
     }
 }
 
-// The answer where the label is found.
-fn found(table: &[u16], spot: Spot, step: Step) -> SearchAnswer
-    requires { ⌜ CanStep (now table) spot step ⌝ }
-    ensures { λ r. ⌜ r ≡ foundAt spot (rowAt (now (table .entry)) (spot .link)) step ⌝ }
+// The answer where no node is visited: absent at an empty link, and else refused.
+fn halted(link: usize, visits: usize, places: usize) -> SearchAnswer
+    ensures { λ r. ⌜ r ≡ haltedAt link visits places ⌝ }
 {
-    let row = words::read_row(table, spot.link);
-    SearchAnswer::Found {
-        slot: spot.link,
-        value: row.value,
-        visits: spot.visits + 1,
-        places: spot.places + step.examined,
+    if link == 0 {
+        return SearchAnswer::Absent { visits, places };
     }
+    SearchAnswer::Refused(Refusal::BrokenWalk)
 }
 
-// The walk from its start on.
-fn walk(limits: Limits, table: &[u16], store: &[u8], label: &[u8], start: Spot) -> SearchAnswer
-    requires { ⌜ CanStart limits (now table) (now store) start ⌝ }
+// The walk from the link at the root. P and S stand in an array, by the side that goes by them.
+fn walk(limits: Limits, table: &[u16], store: &[u8], label: &[u8], root: usize) -> SearchAnswer
+    requires { ⌜ SizesFit limits (now table) (now store) ⌝ }
     ensures { λ r. ⌜
         searchSays r
-        ≡ answerFrom limits (now (table .entry)) (now (store .entry)) (now (label .entry)) start ⌝ }
+        ≡ walkAnswer
+        (steps limits (now (table .entry)) (now (store .entry)) (now (label .entry)) (limits .depth) root 1 1) ⌝ }
 {
-    let mut spot = start;
-    while spot.link != 0 {
-        if nodes::broken(limits, table, spot) {
-            return SearchAnswer::Refused(Refusal::BrokenWalk);
+    let mut link = root;
+    let mut left = limits.depth;
+    let mut places = 0;
+    let mut ends = [1, 1];
+    loop {
+        if nodes::halts(limits, table, link, left) {
+            return halted(link, limits.depth - left, places);
         }
-        let step = nodes::visit(limits, table, store, label, spot);
-        if step.found {
-            return found(table, spot, step);
-        }
-        spot = after(table, spot, step);
-    }
-    SearchAnswer::Absent {
-        visits: spot.visits,
-        places: spot.places,
+        let row = words::read_row(table, link);
+        let side = row.side as usize;
+        let d = row.place as usize;
+        let turn = nodes::turn(side, d, ends[side]);
+        let right = match turn {
+            Turn::Left => false,
+            Turn::Right => true,
+            Turn::Compare => {
+                let c = nodes::compare_row(limits, store, label, link, row);
+                let place = c.place;
+                let order = c.order;
+                places += place + 1 - d;
+                match order {
+                    Order::Smaller => {
+                        ends[1] = place;
+                        false
+                    }
+                    Order::Same => {
+                        return SearchAnswer::Found {
+                            slot: link,
+                            value: row.value,
+                            visits: limits.depth - left + 1,
+                            places,
+                        };
+                    }
+                    Order::Larger => {
+                        ends[0] = place;
+                        true
+                    }
+                }
+            }
+        };
+        link = son(row, right) as usize;
+        left -= 1;
     }
 }
 
@@ -95,13 +121,5 @@ pub fn search_within(limits: Limits, table: &[u16], store: &[u8], label: &[u8]) 
     if limits.width < label.len() {
         return SearchAnswer::Refused(Refusal::LongLabel);
     }
-    let root = table[0] as usize;
-    let start = Spot {
-        link: root,
-        p: 1,
-        s: 1,
-        visits: 0,
-        places: 0,
-    };
-    walk(limits, table, store, label, start)
+    walk(limits, table, store, label, table[0] as usize)
 }

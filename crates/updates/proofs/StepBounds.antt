@@ -11,7 +11,7 @@ use Rattle.labels.proofs.Ends.{ends-from}
 use Rattle.tables.specs.Words.{rowAt, labelAt, partStart}
 use Rattle.tables.specs.Steps.{Step, go-left, go-right, stop, compareStep, predecessorStep, successorStep, stepAt}
 use Rattle.search.specs.declared.Spot.{Spot}
-use Rattle.search.specs.Walks.{nodeStep}
+use Rattle.search.specs.Walks.{rowStep, nodeStep}
 use Rattle.search.specs.Bounds.{GoodRow}
 
 -- a step after which P and S are at most m, and which examined at most m places
@@ -53,7 +53,7 @@ module _ (p s m : ℕ) (p-within : p ≤ m) (s-within : s ≤ m) where
 pub node-step-within : (limits : Limits) (table store : List ℕ) (x : Label) (w : Spot)
     → GoodRow limits (rowAt table (w .link)) → w .p ≤ limits .width + 1 → w .s ≤ limits .width + 1
     → StepWithin (limits .width + 1) (nodeStep limits table store x w)
-unfolding nodeStep labelAt
+unfolding rowStep labelAt
 node-step-within limits table store x w good p-within s-within =
     let row = rowAt table (w .link) in
     let short = length-take (row .len) (drop (partStart limits (w .link)) store) in

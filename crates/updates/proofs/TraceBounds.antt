@@ -2,11 +2,9 @@
 -- `trace-fits`: they are within their bounds, and the nodes beside the way were passed.
 -- `trace-from-root`: so is the trace from the root on, as the code makes it.
 use mathlib.Core.List.{List}
-use mathlib.Core.Bool.{Bool, true, false, _||_, true≢false}
 use mathlib.Core.Path.{_≡_, refl}
 use Prim.Native.Nat.{ℕ, zero, suc, _+_, _-_, _*_, _≤_}
 use native.Mathlib.Omega.{arith}
-use lib.Dec.{eqb}
 use Rattle.types.specs.declared.Limits.{Limits}
 use Rattle.types.specs.declared.Row.{Row}
 use Rattle.labels.specs.Labels.{Label}
@@ -14,19 +12,14 @@ use Rattle.tables.specs.Words.{rowAt}
 use Rattle.tables.specs.Steps.{Step}
 use Rattle.words.specs.Limits.{LimitsFit, SizesFit}
 use Rattle.search.specs.declared.Spot.{Spot}
-use Rattle.search.specs.Bounds.{Unbroken}
-use Rattle.search.proofs.Rows.{unbroken}
+use Rattle.search.specs.Bounds.{Live}
+use Rattle.search.proofs.Rows.{live}
 use Rattle.updates.specs.declared.Trace.{Trace}
 use Rattle.updates.specs.Traces.{rootSpot, spotAt, endedAt, longer, traceBy, traceFrom, traceOn, traced}
 use Rattle.updates.specs.Traces.{Passed, NumbersFit, TraceFits}
 use Rattle.updates.proofs.TraceSteps.{by-test}
 use Rattle.updates.proofs.StepBounds.{StepWithin, left-within, right-within, stop-within, node-step-within}
 use Rattle.updates.proofs.PathBounds.{path-fits}
-
--- the second part of a test that failed
-or-right : (a : Bool) {b : Bool} → (a || b) ≡ false → b ≡ false
-or-right true e = absurd (true≢false e)
-or-right false e = e
 
 -- a spot from which so many nodes are left to visit, with the nearest nodes so far
 record SpotFits (limits : Limits) (table : List ℕ) (left : ℕ) (w : Spot) (below above : ℕ) : Type 0 where
@@ -37,14 +30,15 @@ record SpotFits (limits : Limits) (table : List ℕ) (left : ℕ) (w : Spot) (be
   lower : Passed limits table below
   upper : Passed limits table above
 
--- no node, and a node at which the walk is not broken
+-- no node, and a node to visit
 passed-none : (limits : Limits) (table : List ℕ) → Passed limits table 0
 passed-none limits table =
     record { high = omega arith; some = λ k. absurd (omega arith); short = λ k. absurd (omega arith) }
 
-passed-node : (limits : Limits) (table : List ℕ) (w : Spot) → Unbroken limits table w → Passed limits table (w .link)
-passed-node limits table w walks =
-    record { high = walks .high; some = λ k. walks .good .some; short = λ k. walks .good .short }
+passed-node : (limits : Limits) (table : List ℕ) (link left : ℕ) → Live limits table link left
+    → Passed limits table link
+passed-node limits table link left node =
+    record { high = node .high; some = λ k. node .good .some; short = λ k. node .good .short }
 
 -- a side more changes none of them
 numbers-longer : {limits : Limits} {table : List ℕ} (bit : ℕ) (trace : Trace) → NumbersFit limits table trace
@@ -77,11 +71,12 @@ module _ (limits : Limits) (table store : List ℕ) (x : Label) (fit : LimitsFit
 
     -- where it goes on, by the node's step
     numbers-by : {step : Step} (row : Row) (deeper : Spot → ℕ → ℕ → Trace)
-        → SpotFits limits table (suc left) w below above → Unbroken limits table w → StepWithin (limits .width + 1) step
+        → SpotFits limits table (suc left) w below above → Live limits table (w .link) (suc left)
+        → StepWithin (limits .width + 1) step
         → ((v : Spot) (low high : ℕ) → SpotFits limits table left v low high
         → NumbersFit limits table (deeper v low high))
         → NumbersFit limits table (traceBy step w row below above deeper)
-    numbers-by row deeper spot walks (left-within p s examined p-within s-within few) further =
+    numbers-by row deeper spot node (left-within p s examined p-within s-within few) further =
         numbers-longer 0 (deeper (spotAt w (row .left) p s examined) below (w .link))
         (further (spotAt w (row .left) p s examined) below (w .link)
         (record {
@@ -90,9 +85,9 @@ module _ (limits : Limits) (table store : List ℕ) (x : Label) (fit : LimitsFit
           s = s-within;
           places = omega arith;
           lower = spot .lower;
-          upper = passed-node limits table w walks;
+          upper = passed-node limits table (w .link) (suc left) node;
         }))
-    numbers-by row deeper spot walks (right-within p s examined p-within s-within few) further =
+    numbers-by row deeper spot node (right-within p s examined p-within s-within few) further =
         numbers-longer 1 (deeper (spotAt w (row .right) p s examined) (w .link) above)
         (further (spotAt w (row .right) p s examined) (w .link) above
         (record {
@@ -100,12 +95,12 @@ module _ (limits : Limits) (table store : List ℕ) (x : Label) (fit : LimitsFit
           p = p-within;
           s = s-within;
           places = omega arith;
-          lower = passed-node limits table w walks;
+          lower = passed-node limits table (w .link) (suc left) node;
           upper = spot .upper;
         }))
-    numbers-by row deeper spot walks (stop-within examined few) further =
+    numbers-by row deeper spot node (stop-within examined few) further =
         record {
-          found = walks .high;
+          found = node .high;
           p = spot .p;
           s = spot .s;
           below = spot .lower;
@@ -121,9 +116,9 @@ module _ (limits : Limits) (table store : List ℕ) (x : Label) (fit : LimitsFit
   numbers-from zero w below above spot = numbers-ended w below above spot
   numbers-from (suc left) w below above spot =
       by-test limits table store x w below above (NumbersFit limits table) left (numbers-ended w below above spot)
-      (λ going. let walks = unbroken limits table w _ refl (or-right (eqb (w .link) 0) going) in
-      numbers-by w below above (rowAt table (w .link)) (traceFrom limits table store x left) spot walks
-      (node-step-within limits table store x w (walks .good) (spot .p) (spot .s)) (numbers-from left))
+      (λ going. let node = live limits table (w .link) (suc left) _ refl going in
+      numbers-by w below above (rowAt table (w .link)) (traceFrom limits table store x left) spot node
+      (node-step-within limits table store x w (node .good) (spot .p) (spot .s)) (numbers-from left))
 
   -- the trace of a search
   pub trace-fits : TraceFits limits table (traced limits table store x)

@@ -1,38 +1,41 @@
 -- The trace of a search from a spot on, by what the search does there.
--- `trace-over`, `trace-at-node`: it ends, or takes the node's step; by the test of the spot.
+-- `trace-missing`, `trace-at-node`: it ends at an empty link; it takes the node's step where the test finds a node.
 -- `by-test`: what holds of both holds of the trace.
--- `trace-missing`, `trace-broken`, `trace-found`, `trace-right`, `trace-left`: so, from what the code knows.
+-- `trace-halted`, `trace-found`, `trace-right`, `trace-left`: so, from what the code knows.
 use mathlib.Core.List.{List}
-use mathlib.Core.Bool.{Bool, true, false, _||_}
+use mathlib.Core.Bool.{Bool, true, false}
 use mathlib.Core.Path.{_≡_, refl, sym, _∙_}
-use mathlib.Core.Logic.{_≢_}
 use Prim.Native.Nat.{ℕ, zero, suc, _+_, _-_}
 use native.Mathlib.Omega.{arith}
-use lib.Dec.{eqb}
-use borrow.Author.Tests.{eq-eqb, ne-eqb}
+use borrow.Author.Tests.{eq-eqb}
 use Rattle.types.specs.declared.Limits.{Limits}
+use Rattle.types.specs.declared.Row.{Row}
 use Rattle.labels.specs.Labels.{Label}
 use Rattle.tables.specs.Words.{rowAt}
 use Rattle.search.specs.declared.Spot.{Spot}
 use Rattle.search.specs.declared.Step.{Step}
-use Rattle.search.specs.Walks.{brokenAt, nodeStep, stepOf, sonOf, spotAfter}
-use Rattle.search.proofs.Rows.{room-left}
+use Rattle.search.specs.Walks.{haltsAt, rowStep, nodeStep, stepOf, sonOf, spotAfter}
+use Rattle.search.proofs.Rows.{live}
 use Rattle.updates.specs.declared.Trace.{Trace}
 use Rattle.updates.specs.Traces.{endedAt, foundAt, longer, traceBy, traceFrom, traceOn}
 
 module _ (limits : Limits) (table store : List ℕ) (x : Label) (w : Spot) (below above : ℕ) where
-  -- the test of the spot: no node, or a node that breaks the walk
-  abbrev test : Bool
-  test = eqb (w .link) 0 || brokenAt limits table (w .link) (w .visits)
-
   -- the search ends
-  pub trace-over : (left : ℕ) → test ≡ true → traceFrom limits table store x left w below above ≡ endedAt w below above
+  trace-over : (left : ℕ) → haltsAt limits table (w .link) left ≡ true
+      → traceFrom limits table store x left w below above ≡ endedAt w below above
   unfolding traceFrom
   trace-over zero is = refl
   trace-over (suc left) is = rw (is, traceFrom)
 
+  -- so it does at an empty link
+  pub trace-missing : (left : ℕ) → w .link ≡ 0
+      → traceFrom limits table store x left w below above ≡ endedAt w below above
+  unfolding haltsAt
+  trace-missing left none = trace-over left (rw (eq-eqb (w .link) 0 none))
+
   -- the search takes the node's step
-  pub trace-at-node : (left : ℕ) → test ≡ false → traceFrom limits table store x (suc left) w below above
+  pub trace-at-node : (left : ℕ) → haltsAt limits table (w .link) (suc left) ≡ false
+      → traceFrom limits table store x (suc left) w below above
       ≡ traceBy (nodeStep limits table store x w) w (rowAt table (w .link)) below above
       (traceFrom limits table store x left)
   unfolding traceFrom
@@ -40,53 +43,48 @@ module _ (limits : Limits) (table store : List ℕ) (x : Label) (w : Spot) (belo
 
   -- what holds where the search ends, and by the node's step where it does not, holds of the trace
   pub by-test : (P : Trace → Type 0) (left : ℕ) → P (endedAt w below above)
-      → (test ≡ false → P (traceBy (nodeStep limits table store x w) w (rowAt table (w .link)) below above
+      → (haltsAt limits table (w .link) (suc left) ≡ false
+      → P (traceBy (nodeStep limits table store x w) w (rowAt table (w .link)) below above
       (traceFrom limits table store x left)))
       → P (traceFrom limits table store x (suc left) w below above)
-  by-test P left over by-step = go test refl
+  by-test P left over by-step = go (haltsAt limits table (w .link) (suc left)) refl
     where
-      go : (b : Bool) → test ≡ b → P (traceFrom limits table store x (suc left) w below above)
+      go : (b : Bool) → haltsAt limits table (w .link) (suc left) ≡ b
+          → P (traceFrom limits table store x (suc left) w below above)
       go true is = rw (trace-over (suc left) is) over
       go false is = rw (trace-at-node left is) (by-step is)
 
-  module _ (r : Trace) where
-    -- at an empty link the search ends
-    pub trace-missing : w .link ≡ 0 → r ≡ endedAt w below above → r ≡ traceOn limits table store x w below above
-    trace-missing none e = e ∙ sym (trace-over (limits .depth - w .visits) (rw (eq-eqb (w .link) 0 none)))
+  -- where the code has tested the spot
+  module _ (r : Trace) (tested : Bool) (so : tested ≡ haltsAt limits table (w .link) (limits .depth - w .visits)) where
+    -- where there is no node to visit, the search ends
+    pub trace-halted : tested ≡ true → r ≡ endedAt w below above → r ≡ traceOn limits table store x w below above
+    trace-halted is e = e ∙ sym (trace-over (limits .depth - w .visits) (sym so ∙ is))
 
-    module _ (some : w .link ≢ 0) (tested : Bool) (so : tested ≡ brokenAt limits table (w .link) (w .visits)) where
-      -- at a broken walk too
-      pub trace-broken : tested ≡ true → r ≡ endedAt w below above → r ≡ traceOn limits table store x w below above
-      trace-broken is e = e ∙ sym (trace-over (limits .depth - w .visits) (rw (ne-eqb (w .link) 0 some) (sym so ∙ is)))
+    module _ (fine : tested ≡ false) (row : Row) (read : row ≡ rowAt table (w .link)) (t : Step)
+        (step : stepOf t ≡ rowStep limits store x (w .link) row (w .p) (w .s)) where
+      -- the trace by the code's step
+      trace-stepped : traceOn limits table store x w below above
+          ≡ traceBy (stepOf t) w row below above (traceFrom limits table store x (limits .depth - (w .visits + 1)))
+      trace-stepped =
+          let room = live limits table (w .link) (limits .depth - w .visits) tested so fine .room in
+          let left : limits .depth - w .visits ≡ suc (limits .depth - (w .visits + 1)) = omega arith in
+          let going = rw left at (sym so ∙ fine) in
+          rw (left, step, read) (trace-at-node (limits .depth - (w .visits + 1)) going)
 
-      module _ (t : Step) (fine : tested ≡ false) (step : stepOf t ≡ nodeStep limits table store x w) where
-        -- the trace by the code's step
-        trace-stepped : traceOn limits table store x w below above
-            ≡ traceBy (stepOf t) w (rowAt table (w .link)) below above
-            (traceFrom limits table store x (limits .depth - (w .visits + 1)))
-        trace-stepped =
-            let room = room-left limits table (w .link) (w .visits) tested so fine in
-            let left : limits .depth - w .visits ≡ suc (limits .depth - (w .visits + 1)) = omega arith in
-            let going : test ≡ false = rw (ne-eqb (w .link) 0 some) (sym so ∙ fine) in
-            rw (left, step) (trace-at-node (limits .depth - (w .visits + 1)) going)
+      -- where the label is found, the search ends
+      pub trace-found : t .found ≡ true → r ≡ foundAt w (t .examined) below above
+          → r ≡ traceOn limits table store x w below above
+      trace-found is e = e ∙ sym (rw is at trace-stepped)
 
-        -- where the label is found, the search ends
-        pub trace-found : t .found ≡ true → r ≡ foundAt w (t .examined) below above
-            → r ≡ traceOn limits table store x w below above
-        trace-found is e = e ∙ sym (rw is at trace-stepped)
+      module _ (v : Spot) (deeper : Trace) (on : t .found ≡ false) (next : v ≡ spotAfter w row t) where
+        -- on the right the node is the nearest smaller one
+        pub trace-right : t .right ≡ true → deeper ≡ traceOn limits table store x v (w .link) above
+            → r ≡ longer 1 deeper → r ≡ traceOn limits table store x w below above
+        unfolding sonOf
+        trace-right is further e = e ∙ rw (further, next, is) (sym (rw (on, is) at trace-stepped))
 
-        module _ (v : Spot) (deeper : Trace) (on : t .found ≡ false)
-            (next : v ≡ spotAfter w (rowAt table (w .link)) t) where
-          -- on the right the node is the nearest smaller one
-          pub trace-right : t .right ≡ true
-              → deeper ≡ traceOn limits table store x v (w .link) above
-              → r ≡ longer 1 deeper → r ≡ traceOn limits table store x w below above
-          unfolding sonOf
-          trace-right is further e = e ∙ rw (further, next, is) (sym (rw (on, is) at trace-stepped))
-
-          -- on the left it is the nearest larger one
-          pub trace-left : t .right ≡ false
-              → deeper ≡ traceOn limits table store x v below (w .link)
-              → r ≡ longer 0 deeper → r ≡ traceOn limits table store x w below above
-          unfolding sonOf
-          trace-left is further e = e ∙ rw (further, next, is) (sym (rw (on, is) at trace-stepped))
+        -- on the left it is the nearest larger one
+        pub trace-left : t .right ≡ false → deeper ≡ traceOn limits table store x v below (w .link)
+            → r ≡ longer 0 deeper → r ≡ traceOn limits table store x w below above
+        unfolding sonOf
+        trace-left is further e = e ∙ rw (further, next, is) (sym (rw (on, is) at trace-stepped))

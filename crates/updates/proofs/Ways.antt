@@ -1,12 +1,11 @@
 -- On a table and a store that hold a tree, the trace of a search is the way of the full comparison search.
 -- `leads-from`: so it is in each subtree.  `way-of-trace`: so it is from the root.
-use mathlib.Core.Bool.{false, _||_}
+use mathlib.Core.Bool.{false}
 use mathlib.Core.List.{List}
 use mathlib.Core.Path.{_≡_, refl, ap, _∙_}
 use Prim.Native.Nat.{ℕ, zero, suc, _+_, _≤_, _<_}
 use native.Mathlib.Omega.{arith}
-use lib.Dec.{eqb}
-use borrow.Author.Tests.{eq-eqb, ne-eqb, le-ltb, lt-leb}
+use borrow.Author.Tests.{ne-eqb, le-ltb}
 use Rattle.types.specs.declared.Limits.{Limits}
 use Rattle.labels.specs.Labels.{Label}
 use Rattle.labels.specs.Neighbours.{Neighbour, none-below, held, none-above}
@@ -22,7 +21,7 @@ use Rattle.tables.specs.Outcomes.{visitsOf, placesOf}
 use Rattle.tables.proofs.Represents.{NodeHeld, Represents}
 use Rattle.checks.specs.Check.{belowIn, aboveIn}
 use Rattle.search.specs.declared.Spot.{Spot}
-use Rattle.search.specs.Walks.{brokenAt, nodeStep}
+use Rattle.search.specs.Walks.{haltsAt, rowStep}
 use Rattle.steps.proofs.Window.{Sought, sought-first}
 use Rattle.steps.proofs.Node.{step-goes}
 use Rattle.steps.proofs.Rows.{row-not-bad, steps-at-node}
@@ -31,7 +30,7 @@ use Rattle.turns.proofs.Along.{sidesTo, lowTo, highTo}
 use Rattle.updates.specs.declared.Trace.{Trace}
 use Rattle.updates.specs.Traces.{rootSpot, spotAt, traceBy, traceFrom, traced}
 use Rattle.updates.proofs.Traces.{Ends, Way}
-use Rattle.updates.proofs.TraceSteps.{trace-over, trace-at-node}
+use Rattle.updates.proofs.TraceSteps.{trace-missing, trace-at-node}
 use Rattle.updates.proofs.Leads.{EndsIn, Leads, leads-same, leads-by}
 
 module _ (limits : Limits) (table store : List ℕ) (x : Label) where
@@ -47,27 +46,27 @@ module _ (limits : Limits) (table store : List ℕ) (x : Label) where
     label-here : entryAt limits table store (w .link) .label ≡ e .label
     label-here = rw (here, node-held .row) (node-held .label)
 
-    -- the walk is not broken at the node
-    not-broken : w .visits < limits .depth → (eqb (w .link) 0 || brokenAt limits table (w .link) (w .visits)) ≡ false
-    unfolding brokenAt
-    not-broken room =
+    -- the test finds the node
+    not-halted : (left : ℕ) → haltsAt limits table (w .link) (suc left) ≡ false
+    unfolding haltsAt
+    not-halted left =
         let good = row-not-bad limits p l e r q (node-held .some) (node-held .short) in
         rw (
           here,
           ne-eqb (e .slot) 0 (omega (arith, node-held .low)),
-          lt-leb (limits .depth) (w .visits) room,
+          ne-eqb (suc left) 0 (omega arith),
           le-ltb (limits .slots) (e .slot) (node-held .high),
           node-held .row,
         ) good
 
     -- the trace from the node on takes the step at its label, place and side
-    trace-at : (left below above : ℕ) → w .visits < limits .depth
+    trace-at : (left below above : ℕ)
         → traceFrom limits table store x (suc left) w below above
         ≡ traceBy (stepAt x (e .label) (sideWithin p (e .label) q) (placeWithin p (e .label) q) (w .p) (w .s)) w
         (nodeRow p l e r q) below above (traceFrom limits table store x left)
-    unfolding nodeStep
-    trace-at left below above room =
-        trace-at-node limits table store x w below above left (not-broken room)
+    unfolding rowStep
+    trace-at left below above =
+        trace-at-node limits table store x w below above left (not-halted left)
         ∙ rw (here, node-held .row, node-held .label)
 
   -- the trace in a subtree between p and q
@@ -79,7 +78,7 @@ module _ (limits : Limits) (table store : List ℕ) (x : Label) where
       (steps limits table store x left (linkOf t) (w .p) (w .s)) w (traceFrom limits table store x left w below above)
   leads-from empty left p q w below above lower upper here deep between represented fits sought =
       leads-same (steps-at-missing limits table store x left (w .p) (w .s))
-      (trace-over limits table store x w below above left (rw (eq-eqb (w .link) 0 here)))
+      (trace-missing limits table store x w below above left here)
       (record {
         path = refl;
         sides = refl;
@@ -97,7 +96,7 @@ module _ (limits : Limits) (table store : List ℕ) (x : Label) where
       let node-held = represented .0 in
       let beside = neighbour-in (w .link) (e .label) (omega (arith, node-held .low)) (label-here node-held w here) in
       leads-same (steps-at-node limits table store x node-held left (w .p) (w .s))
-      (trace-at node-held w here left below above (omega arith))
+      (trace-at node-held w here left below above)
       (leads-by e w (nodeRow p l e r q) below above (traceFrom limits table store x left)
       (steps limits table store x left (linkOf l)) (steps limits table store x left (linkOf r))
       (fullSearch x l) (fullSearch x r) lower upper here

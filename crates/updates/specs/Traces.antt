@@ -1,8 +1,7 @@
 -- The search of an update, with the way it went kept: its trace, over a table and a store of any content.
 use mathlib.Core.List.{List}
-use mathlib.Core.Bool.{true, false, _||_}
+use mathlib.Core.Bool.{true, false}
 use Prim.Native.Nat.{ℕ, zero, suc, _+_, _-_, _*_, _^_, _≤_, _<_}
-use lib.Dec.{eqb}
 use Rattle.types.specs.declared.Limits.{Limits}
 use Rattle.types.specs.declared.Row.{Row}
 use Rattle.labels.specs.Labels.{Label}
@@ -10,7 +9,7 @@ use Rattle.tables.specs.Words.{rootLink, rowAt}
 use Rattle.tables.specs.Steps.{Step, go-left, go-right, stop}
 use Rattle.words.specs.Limits.{SizesFit}
 use Rattle.search.specs.declared.Spot.{Spot}
-use Rattle.search.specs.Walks.{brokenAt, nodeStep}
+use Rattle.search.specs.Walks.{haltsAt, nodeStep}
 use Rattle.updates.specs.declared.Trace.{Trace}
 
 -- the search starts at the root, with P and S at 1
@@ -81,7 +80,7 @@ traceBy (stop examined) w row below above deeper = foundAt w examined below abov
 unfoldable pub traceFrom : Limits → (table store : List ℕ) → Label → (left : ℕ) → Spot → (below above : ℕ) → Trace
 traceFrom limits table store x zero w below above = endedAt w below above
 traceFrom limits table store x (suc left) w below above =
-    elim (eqb (w .link) 0 || brokenAt limits table (w .link) (w .visits)) [
+    elim (haltsAt limits table (w .link) (suc left)) [
       | true ↦ endedAt w below above
       | false ↦ traceBy (nodeStep limits table store x w) w (rowAt table (w .link)) below above
           (traceFrom limits table store x left)

@@ -47,7 +47,7 @@ pub fn difference_place(x: &[u8], y: &[u8]) -> u16
     requires { ⌜ length (now y) ≤ 4096 ⌝ }
     ensures { λ r. ⌜ r ≡ differencePlace (now (x .entry)) (now (y .entry)) ⌝ }
 {
-    let compared = compares::compare(x, y, 1);
+    let compared = compares::eights::compare(x, y, 1);
     compared.place as u16
 }
 

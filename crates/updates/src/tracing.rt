@@ -76,18 +76,16 @@ fn trace_from(
     ensures { λ r. ⌜
         r ≡ traceOn limits (now (table .entry)) (now (store .entry)) (now (label .entry)) spot below above ⌝ }
 {
-    if spot.link == 0 {
+    if nodes::halts(limits, table, spot.link, limits.depth - spot.visits) {
         return ended(spot, below, above);
     }
-    if nodes::broken(limits, table, spot) {
-        return ended(spot, below, above);
-    }
-    let step = nodes::visit(limits, table, store, label, spot);
+    let row = words::read_row(table, spot.link);
+    let step = nodes::visit(limits, store, label, spot, row);
     if step.found {
         return found(spot, step.examined, below, above);
     }
     let slot = spot.link as u16;
-    let next = walks::after(table, spot, step);
+    let next = walks::after(spot, row, step);
     if step.right {
         let deeper = trace_from(limits, table, store, label, next, slot, above);
         return longer(1, deeper);

@@ -3,6 +3,7 @@ use native.Mathlib.Omega.{arith}
 use borrow.Author.Tests.{not-true, not-false}
 use Rattle.checks.proofs.SoundLaws.{sound-held, sound-unused, sound-counted, sound-chain}
 use Rattle.checks.proofs.ChainLaws.{chain-fits}
+use Rattle.checks.proofs.WindowLaws.{root-fits}
 use borrow.Author.Needs.{needs}
 use Rattle.checks.proofs.sound_within.Statement.{statement}
 use Rattle.checks.proofs.sound_within.Tie as tie
@@ -35,7 +36,7 @@ cast-check-tree : tie.Need-cast-check-tree
 cast-check-tree c = omega (arith, c .shared-slice-known5 .given 0)
 
 check-tree-requires : tie.Need-check-tree-requires
-check-tree-requires c κs = search needs
+check-tree-requires c κs = search root-fits
 
 count-is-requires : tie.Need-count-is-requires
 count-is-requires c κs = search needs

@@ -1,20 +1,18 @@
 -- `nodes::fields_fine` meets its contract: one law for each way out.
-use Rattle.checks.proofs.NodeLaws.{lower-wrong, upper-wrong, both-placed}
+use borrow.Author.Tests.{not-true, not-false}
+use Rattle.checks.proofs.NodeLaws.{fields-broken, fields-wrong, fields-right}
 use borrow.Author.Needs.{needs}
 use Rattle.checks.proofs.nodes.fields_fine.Statement.{statement}
 use Rattle.checks.proofs.nodes.fields_fine.Tie as tie
 
+enum-known-both : tie.Need-enum-known-both
+enum-known-both c = search needs
+
 enum-told : tie.Need-enum-told
 enum-told c = search needs
 
-enum-known-lower : tie.Need-enum-known-lower
-enum-known-lower c = search needs
-
-enum-told-2 : tie.Need-enum-told-2
-enum-told-2 c = search needs
-
-enum-known-upper : tie.Need-enum-known-upper
-enum-known-upper c = search needs
+returns : tie.Need-returns
+returns c = search fields-broken
 
 cast-fields-by : tie.Need-cast-fields-by
 cast-fields-by c = search needs
@@ -25,26 +23,21 @@ cast-fields-by-2 c = search needs
 fields-by-requires : tie.Need-fields-by-requires
 fields-by-requires c κs = search needs
 
-returns : tie.Need-returns
-returns c = search lower-wrong
-
 returns-2 : tie.Need-returns-2
-returns-2 c = search upper-wrong
+returns-2 c = search (fields-wrong, not-true)
 
 returns-3 : tie.Need-returns-3
-returns-3 c = search both-placed
+returns-3 c = search (fields-right, not-false)
 
 pub fields-fine-spec : {M : Type 1} → statement M
 fields-fine-spec =
     tie.close
     (tie.spec
+    enum-known-both
     enum-told
-    enum-known-lower
-    enum-told-2
-    enum-known-upper
+    returns
     cast-fields-by
     cast-fields-by-2
     fields-by-requires
-    returns
     returns-2
     returns-3)

@@ -1,11 +1,11 @@
 -- `nodes::gap` meets its contract: one law for each order of the labels.
-use Rattle.checks.proofs.GapLaws.{gap-smaller, gap-same, gap-larger}
+use Rattle.checks.proofs.GapLaws.{gap-starts, gap-smaller, gap-same, gap-larger}
 use borrow.Author.Needs.{needs}
 use Rattle.checks.proofs.nodes.gap.Statement.{statement}
 use Rattle.checks.proofs.nodes.gap.Tie as tie
 
 compare-requires : tie.Need-compare-requires
-compare-requires c κs = search needs
+compare-requires c κs = search gap-starts
 
 enum-told : tie.Need-enum-told
 enum-told c = search needs

@@ -1,49 +1,84 @@
 -- `zeros::bytes_zero` meets its contract.
--- The loop's invariant: the bytes from i on are zero where those from start on are.
+-- Both loops' invariant: the bytes before i are zero, so that from each of them on it is as from start on.
 -- The measure is what is left of the length.
-use mathlib.Core.Path.{_∙_}
-use borrow.Author.Tests.{not-true, not-false}
 use Prim.Native.Nat.{_-_, _≤_}
-use mathlib.Core.Path.{_≡_, refl}
+use mathlib.Core.Path.{refl}
 use native.Mathlib.Omega.{arith}
-use lib.ListN.{length, drop}
-use Rattle.tables.specs.Sound.{allZero}
-use Rattle.checks.proofs.ZeroLaws.{zeros-broken-by, zeros-on-by}
+use lib.ListN.{length}
+use borrow.Author.Needs.{needs}
+use borrow.Author.Tests.{not-true, not-false}
+use Rattle.checks.proofs.ZeroLaws.{PassedTo, passed-start, passed-broken, passed-on, passed-last}
 use Rattle.checks.proofs.zeros.bytes_zero.Statement.{statement}
 use Rattle.checks.proofs.zeros.bytes_zero.Tie as tie
 
 abbrev Inv-loop : tie.InvT-loop
-Inv-loop bytes start i₀ i = (i ≤ length bytes) × (allZero (drop i bytes) ≡ allZero (drop start bytes))
+Inv-loop bytes start last i₀ i = (i ≤ length bytes) × PassedTo bytes start i
 
 abbrev μ-loop : tie.MeasureT-loop
-μ-loop bytes start i₀ i = length bytes - i
+μ-loop bytes start last i₀ i = length bytes - i
 
-loop-holds : tie.Need-loop-holds Inv-loop μ-loop
-loop-holds c = (omega arith, refl)
+abbrev Inv-loop2 : tie.InvT-loop2
+Inv-loop2 bytes start last i₀ i = (i ≤ length bytes) × PassedTo bytes start i
 
-sub-loop : tie.Need-sub-loop Inv-loop μ-loop
-sub-loop c = omega arith
+abbrev μ-loop2 : tie.MeasureT-loop2
+μ-loop2 bytes start last i₀ i = length bytes - i
 
-eight-zero-requires : tie.Need-eight-zero-requires Inv-loop μ-loop
-eight-zero-requires c κs = omega arith
+sub-if1 : tie.Need-sub-if1 Inv-loop μ-loop Inv-loop2 μ-loop2
+sub-if1 c = omega arith
 
-returns : tie.Need-returns Inv-loop μ-loop
-returns c = search (zeros-broken-by, not-true)
+last-bytes-zero-requires : tie.Need-last-bytes-zero-requires Inv-loop μ-loop Inv-loop2 μ-loop2
+last-bytes-zero-requires c κs = search needs
 
-add-i : tie.Need-add-i Inv-loop μ-loop
+returns : tie.Need-returns Inv-loop μ-loop Inv-loop2 μ-loop2
+returns c = search needs
+
+sub-last : tie.Need-sub-last Inv-loop μ-loop Inv-loop2 μ-loop2
+sub-last c = omega arith
+
+loop-holds : tie.Need-loop-holds Inv-loop μ-loop Inv-loop2 μ-loop2
+loop-holds c = (omega arith, passed-start _ _)
+
+add-loop : tie.Need-add-loop Inv-loop μ-loop Inv-loop2 μ-loop2
+add-loop c = omega arith
+
+thirty-two-zero-requires : tie.Need-thirty-two-zero-requires Inv-loop μ-loop Inv-loop2 μ-loop2
+thirty-two-zero-requires c κs = omega arith
+
+returns-2 : tie.Need-returns-2 Inv-loop μ-loop Inv-loop2 μ-loop2
+returns-2 c = search (passed-broken, not-true)
+
+add-i : tie.Need-add-i Inv-loop μ-loop Inv-loop2 μ-loop2
 add-i c = omega arith
 
-loop-less : tie.Need-loop-less Inv-loop μ-loop
+loop-less : tie.Need-loop-less Inv-loop μ-loop Inv-loop2 μ-loop2
 loop-less c = omega arith
 
-loop-again : tie.Need-loop-again Inv-loop μ-loop
-loop-again c = (omega arith, search (zeros-on-by, not-false))
+loop-again : tie.Need-loop-again Inv-loop μ-loop Inv-loop2 μ-loop2
+loop-again c = (omega arith, search (passed-on, not-false))
 
-last-bytes-zero-requires : tie.Need-last-bytes-zero-requires Inv-loop μ-loop
-last-bytes-zero-requires c κs = omega arith
+loop2-holds : tie.Need-loop2-holds Inv-loop μ-loop Inv-loop2 μ-loop2
+loop2-holds c = search needs
 
-returns-2 : tie.Need-returns-2 Inv-loop μ-loop
-returns-2 c = c .last-bytes-zero .ensures ∙ c .before .before .loop .inv .1
+eight-zero-requires : tie.Need-eight-zero-requires Inv-loop μ-loop Inv-loop2 μ-loop2
+eight-zero-requires c κs = omega arith
+
+returns-3 : tie.Need-returns-3 Inv-loop μ-loop Inv-loop2 μ-loop2
+returns-3 c = search (passed-broken, not-true)
+
+add-i-2 : tie.Need-add-i-2 Inv-loop μ-loop Inv-loop2 μ-loop2
+add-i-2 c = omega arith
+
+loop2-less : tie.Need-loop2-less Inv-loop μ-loop Inv-loop2 μ-loop2
+loop2-less c = omega arith
+
+loop2-again : tie.Need-loop2-again Inv-loop μ-loop Inv-loop2 μ-loop2
+loop2-again c = (omega arith, search (passed-on, not-false))
+
+eight-zero-requires-2 : tie.Need-eight-zero-requires-2 Inv-loop μ-loop Inv-loop2 μ-loop2
+eight-zero-requires-2 c κs = omega arith
+
+returns-4 : tie.Need-returns-4 Inv-loop μ-loop Inv-loop2 μ-loop2
+returns-4 c = search (passed-last, refl)
 
 pub bytes-zero-spec : {M : Type 1} → statement M
 bytes-zero-spec =
@@ -51,12 +86,24 @@ bytes-zero-spec =
     (tie.spec
     Inv-loop
     μ-loop
-    loop-holds
-    sub-loop
-    eight-zero-requires
+    Inv-loop2
+    μ-loop2
+    sub-if1
+    last-bytes-zero-requires
     returns
+    sub-last
+    loop-holds
+    add-loop
+    thirty-two-zero-requires
+    returns-2
     add-i
     loop-less
     loop-again
-    last-bytes-zero-requires
-    returns-2)
+    loop2-holds
+    eight-zero-requires
+    returns-3
+    add-i-2
+    loop2-less
+    loop2-again
+    eight-zero-requires-2
+    returns-4)

@@ -1,10 +1,9 @@
 -- `search::nodes::turn` meets its contract, by the tests of its branches.
 use Rattle.labels.proofs.Branches.{branches}
 use Rattle.search.specs.Walks.{turnOf}
+use Rattle.search.proofs.Turns.{turn-level}
 use Rattle.search.proofs.nodes.turn.Statement.{statement}
 use Rattle.search.proofs.nodes.turn.Tie as tie
-use Rattle.search.proofs.nodes.turn.Reads as reads
-use Rattle.search.proofs.nodes.turn.Lts as lts
 
 returns : tie.Need-returns
 unfolding turnOf
@@ -23,12 +22,7 @@ unfolding turnOf
 returns-4 c = search branches
 
 returns-5 : tie.Need-returns-5
-unfolding turnOf
-returns-5 c = search branches
-
-returns-6 : tie.Need-returns-6
-unfolding turnOf
-returns-6 c = search branches
+returns-5 c = search turn-level
 
 pub turn-spec : {M : Type 1} → statement M
-turn-spec = tie.close (tie.spec returns returns-2 returns-3 returns-4 returns-5 returns-6)
+turn-spec = tie.close (tie.spec returns returns-2 returns-3 returns-4 returns-5)

@@ -7,9 +7,6 @@ use Rattle.search.proofs.Answers.{outcome-walked}
 use borrow.Author.Needs.{needs}
 use Rattle.search.proofs.walks.search_within.Statement.{statement}
 use Rattle.search.proofs.walks.search_within.Tie as tie
-use Rattle.search.proofs.walks.search_within.Reads as reads
-use Rattle.search.proofs.walks.search_within.Lts as lts
-use Rattle.search.proofs.walks.walk.Reads as walk-reads
 
 mul-if1 : tie.Need-mul-if1
 mul-if1 c = search needs
@@ -38,11 +35,11 @@ returns-4 : tie.Need-returns-4
 unfolding searchOutcome
 returns-4 c = search branches
 
-shared-slice-read-root : tie.Need-shared-slice-read-root
-shared-slice-read-root c = search needs
+shared-slice-read-walk : tie.Need-shared-slice-read-walk
+shared-slice-read-walk c = search needs
 
-cast-root : tie.Need-cast-root
-cast-root c = omega (arith, c .shared-slice-known4 .given 0)
+cast-walk : tie.Need-cast-walk
+cast-walk c = omega (arith, c .shared-slice-known4 .given 0)
 
 walk-requires : tie.Need-walk-requires
 walk-requires c κs = search needs
@@ -61,7 +58,7 @@ search-within-spec =
     returns-2
     returns-3
     returns-4
-    shared-slice-read-root
-    cast-root
+    shared-slice-read-walk
+    cast-walk
     walk-requires
     returns-5)

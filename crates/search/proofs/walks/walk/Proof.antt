@@ -1,69 +1,185 @@
 -- `search::walks::walk` meets its contract.
--- The invariant: from the spot reached, the answer is that from the start; the counts are within their bounds.
--- The measure: the visits that are left.
-use Prim.Native.Nat.{_-_, _*_, _≤_}
-use mathlib.Core.Path.{_≡_, refl}
+-- The invariant: from the link reached, the answer is that from the root; the counts are within their bounds.
+-- The measure: the nodes that are left to visit.
+use mathlib.Core.Path.{refl}
+use mathlib.Core.Logic.{⊎-elim}
 use native.Mathlib.Omega.{arith}
 use borrow.Author.Needs.{needs}
-use Rattle.search.specs.Walks.{answerFrom}
-use Rattle.search.proofs.Rows.{unbroken, room-left, can-step}
-use Rattle.search.proofs.Answers.{walk-missing, walk-broken, walk-found, walk-onward}
+use Rattle.tables.specs.Steps.{steps}
+use Rattle.tables.specs.Outcomes.{walkAnswer}
+use Rattle.search.specs.Bounds.{AtRow, Live}
+use Rattle.search.proofs.Rows.{live, live-row, live-side, live-slot}
+use Rattle.search.proofs.Moves.{Went, went-as, went-left, went-right, went-smaller, went-larger, ended-same}
+use Rattle.search.proofs.Answers.{Reached, reached-root, reached-son, walk-halted, walk-found}
 use Rattle.search.proofs.walks.walk.Statement.{statement}
 use Rattle.search.proofs.walks.walk.Tie as tie
-use Rattle.search.proofs.walks.walk.Reads as reads
-use Rattle.search.proofs.walks.walk.Lts as lts
-use Rattle.search.proofs.nodes.broken.Reads as broken-reads
-use Rattle.search.proofs.nodes.visit.Reads as visit-reads
-use Rattle.search.proofs.walks.after.Reads as after-reads
-use Rattle.search.proofs.walks.found.Reads as found-reads
 
 abbrev Inv-loop : tie.InvT-loop
-Inv-loop limits table store label start spot =
-    (spot .visits ≤ limits .depth)
-    × ((spot .places ≤ 4097 * spot .visits)
-    × (answerFrom limits table store label spot ≡ answerFrom limits table store label start))
+Inv-loop limits table store label root link₀ left₀ places₀ ends₀ link left places ends =
+    Reached limits table store label (walkAnswer (steps limits table store label (limits .depth) root 1 1))
+    link left places ends
 
 abbrev μ-loop : tie.MeasureT-loop
-μ-loop limits table store label start spot = limits .depth - spot .visits
+μ-loop limits table store label root link₀ left₀ places₀ ends₀ link left places ends = left
+
+-- what is known at a node whose row is read
+module _ (c : tie.After-read-row Inv-loop μ-loop) where
+  abbrev start : tie.Start Inv-loop μ-loop
+  start = c .before .before .before .before .before .before .before
+
+  abbrev reached : tie.At-loop Inv-loop μ-loop
+  reached = c .before .before .before
+
+  node : Live (start .args .limits) (start .args .table .now) (reached .loop .link) (reached .loop .left)
+  node = live _ _ _ _ _ (c .before .before .halts .ensures) (c .before .if1 .left)
+
+  slot : AtRow (start .args .limits) (start .args .store .now) (reached .loop .link) (c .read-row .result)
+  slot =
+      live-slot _ _ _ _ _ (c .before .before .halts .ensures) (c .before .if1 .left) _ (start .pre) _ (c .read-row .ensures)
+
+-- the row that was read, from where the turn is known
+abbrev read : tie.After-turn Inv-loop μ-loop → tie.After-read-row Inv-loop μ-loop
+read c = c .before .before .before
 
 loop-holds : tie.Need-loop-holds Inv-loop μ-loop
-loop-holds c = (omega arith, (omega arith, refl))
+loop-holds c = search reached-root
 
-broken-requires : tie.Need-broken-requires Inv-loop μ-loop
-broken-requires c κs = search needs
+halts-requires : tie.Need-halts-requires Inv-loop μ-loop
+halts-requires c κs = search needs
+
+sub-halted : tie.Need-sub-halted Inv-loop μ-loop
+sub-halted c = search needs
+
+halted-requires : tie.Need-halted-requires Inv-loop μ-loop
+halted-requires c κs = search needs
 
 returns : tie.Need-returns Inv-loop μ-loop
-returns c = search walk-broken
+returns c = search walk-halted
 
-visit-requires : tie.Need-visit-requires Inv-loop μ-loop
-visit-requires c κs = record { sizes = search needs; some = search needs; unbroken = search unbroken }
+read-row-requires : tie.Need-read-row-requires Inv-loop μ-loop
+read-row-requires c κs = search live-row
 
-found-requires : tie.Need-found-requires Inv-loop μ-loop
-found-requires c κs = search (can-step, unbroken)
+cast-side : tie.Need-cast-side Inv-loop μ-loop
+cast-side c = search needs
+
+cast-d : tie.Need-cast-d Inv-loop μ-loop
+cast-d c = search needs
+
+mul-turn : tie.Need-mul-turn Inv-loop μ-loop
+mul-turn c =
+    let side = slot (c .before .before) .good .sided in
+    record { fits = omega arith }
+
+array-read-turn : tie.Need-array-read-turn Inv-loop μ-loop
+array-read-turn c = search live-side
+
+turn-requires : tie.Need-turn-requires Inv-loop μ-loop
+turn-requires c κs = search needs
+
+enum-told : tie.Need-enum-told Inv-loop μ-loop
+enum-told c = search needs
+
+enum-told-2 : tie.Need-enum-told-2 Inv-loop μ-loop
+enum-told-2 c = search needs
+
+enum-told-3 : tie.Need-enum-told-3 Inv-loop μ-loop
+enum-told-3 c = search needs
+
+compare-row-requires : tie.Need-compare-row-requires Inv-loop μ-loop
+compare-row-requires c κs = search live-slot
+
+add-places : tie.Need-add-places Inv-loop μ-loop
+add-places c = search needs
+
+sub-places : tie.Need-sub-places Inv-loop μ-loop
+sub-places c = search needs
+
+add-places-2 : tie.Need-add-places-2 Inv-loop μ-loop
+add-places-2 c =
+    let at = read (c .before .before .before) in
+    let deep = start at .pre .fit .depth in
+    let few = reached at .loop .inv .few in
+    let place = c .compare-row .ensures .1 .high in
+    record { fits = omega arith }
+
+enum-told-4 : tie.Need-enum-told-4 Inv-loop μ-loop
+enum-told-4 c = search needs
+
+array-write-ends : tie.Need-array-write-ends Inv-loop μ-loop
+array-write-ends c = search needs
+
+enum-told-5 : tie.Need-enum-told-5 Inv-loop μ-loop
+enum-told-5 c = search needs
+
+sub-t30 : tie.Need-sub-t30 Inv-loop μ-loop
+sub-t30 c = search needs
+
+add-t31 : tie.Need-add-t31 Inv-loop μ-loop
+add-t31 c =
+    let deep = start (read (c .before .before .before .before .before .before)) .pre .fit .depth in
+    record { fits = omega arith }
 
 returns-2 : tie.Need-returns-2 Inv-loop μ-loop
-returns-2 c = search walk-found
+returns-2 c =
+    let compared = c .before .before .before in
+    let turn = compared .before .before .before in
+    let at = read turn in
+    let loop = reached at .loop in
+    let found = ended-same _ _ _ _ _ (loop .places) (loop .ends) _ (slot at) (loop .inv .two) (turn .turn .ensures)
+    (compared .before .enum-told3 .given .1) _ (compared .compare-row .ensures .0) (compared .compare-row .ensures .1)
+    (c .before .enum-told5 .given .1) in
+    walk-found _ _ _ _ _ _ _ _ _ (loop .inv .so) _ (at .before .before .halts .ensures) (at .before .if1 .left) _
+    (at .read-row .ensures) _ _ _ found refl (omega arith)
 
-after-requires : tie.Need-after-requires Inv-loop μ-loop
-after-requires c κs = search (can-step, unbroken)
+enum-told-6 : tie.Need-enum-told-6 Inv-loop μ-loop
+enum-told-6 c = search needs
+
+array-write-ends-2 : tie.Need-array-write-ends-2 Inv-loop μ-loop
+array-write-ends-2 c = search needs
+
+-- how the walk goes on where the ways meet
+went : (c : tie.At-match-came Inv-loop μ-loop)
+    → Went (start (read (c .before)) .args .limits) (start (read (c .before)) .args .store .now)
+    (start (read (c .before)) .args .label .now) (reached (read (c .before)) .loop .link)
+    (read (c .before) .read-row .result) (reached (read (c .before)) .loop .ends)
+    (reached (read (c .before)) .loop .places) (c .match .right) (c .match .ends) (c .match .places)
+went c =
+    let at = slot (read (c .before)) in
+    let turn = c .before .turn .ensures in
+    let loop = reached (read (c .before)) .loop in
+    let two = loop .inv .two in
+    ⊎-elim
+    (λ w. went-as _ _ _ (w .4) (w .3) (w .2)
+    (went-left _ _ _ _ _ (loop .places) (loop .ends) _ at two turn (w .1 .given .1)))
+    (⊎-elim
+    (λ w. went-as _ _ _ (w .4) (w .3) (w .2)
+    (went-right _ _ _ _ _ (loop .places) (loop .ends) _ at two turn (w .1 .given .1)))
+    (⊎-elim
+    (λ w. let sum = w .5 in went-as _ _ _ (w .7) (w .6) (omega arith)
+    (went-smaller _ _ _ _ _ (loop .places) (loop .ends) _ at two turn (w .1 .given .1) _ (w .2 .ensures .0)
+    (w .2 .ensures .1) (w .4 .given .1)))
+    (λ w. let sum = w .5 in went-as _ _ _ (w .7) (w .6) (omega arith)
+    (went-larger _ _ _ _ _ (loop .places) (loop .ends) _ at two turn (w .1 .given .1) _ (w .2 .ensures .0)
+    (w .2 .ensures .1) (w .4 .given .1)))))
+    (c .match .came)
+
+son-requires : tie.Need-son-requires Inv-loop μ-loop
+son-requires c κs = search needs
+
+cast-link : tie.Need-cast-link Inv-loop μ-loop
+cast-link c = search needs
+
+sub-left : tie.Need-sub-left Inv-loop μ-loop
+sub-left c = let room = node (read (c .before .before)) .room in omega arith
 
 loop-less : tie.Need-loop-less Inv-loop μ-loop
-loop-less c =
-    let tested = c .before .before .before in
-    let room = room-left _ _ _ _ _ (tested .before .broken .ensures) (tested .if2 .left) in
-    let visits = c .after .ensures .1 .visits in
-    omega arith
+loop-less c = let room = node (read (c .before .before)) .room in omega arith
 
 loop-again : tie.Need-loop-again Inv-loop μ-loop
 loop-again c =
-    let tested = c .before .before .before in
-    let room = room-left _ _ _ _ _ (tested .before .broken .ensures) (tested .if2 .left) in
-    let visits = c .after .ensures .1 .visits in
-    let places = c .after .ensures .1 .places in
-    (omega arith, (omega arith, search walk-onward))
-
-returns-3 : tie.Need-returns-3 Inv-loop μ-loop
-returns-3 c = search walk-missing
+    let at = read (c .before .before) in
+    reached-son _ _ _ _ _ _ _ _ _ _ _ _ _ _ _ (reached at .loop .inv) (at .before .before .halts .ensures)
+    (at .before .if1 .left) (at .read-row .ensures) (c .son .ensures) (went (c .before))
 
 pub walk-spec : {M : Type 1} → statement M
 walk-spec =
@@ -72,12 +188,33 @@ walk-spec =
     Inv-loop
     μ-loop
     loop-holds
-    broken-requires
+    halts-requires
+    sub-halted
+    halted-requires
     returns
-    visit-requires
-    found-requires
+    read-row-requires
+    cast-side
+    cast-d
+    mul-turn
+    array-read-turn
+    turn-requires
+    enum-told
+    enum-told-2
+    enum-told-3
+    compare-row-requires
+    add-places
+    sub-places
+    add-places-2
+    enum-told-4
+    array-write-ends
+    enum-told-5
+    sub-t30
+    add-t31
     returns-2
-    after-requires
+    enum-told-6
+    array-write-ends-2
+    son-requires
+    cast-link
+    sub-left
     loop-less
-    loop-again
-    returns-3)
+    loop-again)

@@ -1,9 +1,9 @@
--- `nodes::node_fine` meets its contract: one law for each way out.
+-- `nodes::node_gaps` meets its contract: one law for each way out.
 use borrow.Author.Tests.{not-true, not-false}
 use Rattle.checks.proofs.NodeLaws.{node-unused, node-used, node-placed}
 use borrow.Author.Needs.{needs}
-use Rattle.checks.proofs.nodes.node_fine.Statement.{statement}
-use Rattle.checks.proofs.nodes.node_fine.Tie as tie
+use Rattle.checks.proofs.nodes.node_gaps.Statement.{statement}
+use Rattle.checks.proofs.nodes.node_gaps.Tie as tie
 
 used-row-requires : tie.Need-used-row-requires
 used-row-requires c κs = search needs
@@ -17,11 +17,8 @@ cast-label-at c = search needs
 label-at-requires : tie.Need-label-at-requires
 label-at-requires c κs = search (node-used, not-false)
 
-gap-below-requires : tie.Need-gap-below-requires
-gap-below-requires c κs = search needs
-
-gap-above-requires : tie.Need-gap-above-requires
-gap-above-requires c κs = search needs
+gaps-requires : tie.Need-gaps-requires
+gaps-requires c κs = search needs
 
 fields-fine-requires : tie.Need-fields-fine-requires
 fields-fine-requires c κs = search needs
@@ -29,15 +26,14 @@ fields-fine-requires c κs = search needs
 returns-2 : tie.Need-returns-2
 returns-2 c = search (node-placed, not-false)
 
-pub node-fine-spec : {M : Type 1} → statement M
-node-fine-spec =
+pub node-gaps-spec : {M : Type 1} → statement M
+node-gaps-spec =
     tie.close
     (tie.spec
     used-row-requires
     returns
     cast-label-at
     label-at-requires
-    gap-below-requires
-    gap-above-requires
+    gaps-requires
     fields-fine-requires
     returns-2)

@@ -1,0 +1,22 @@
+-- `search::nodes::prior` meets its contract, by its test.
+use Rattle.labels.proofs.Branches.{branches}
+use Rattle.search.specs.Walks.{numberBefore}
+use borrow.Author.Needs.{needs}
+use Rattle.search.proofs.nodes.prior.Statement.{statement}
+use Rattle.search.proofs.nodes.prior.Tie as tie
+use Rattle.search.proofs.nodes.prior.Reads as reads
+use Rattle.search.proofs.nodes.prior.Lts as lts
+
+sub-result : tie.Need-sub-result
+sub-result c = search needs
+
+returns : tie.Need-returns
+unfolding numberBefore
+returns c = search branches
+
+returns-2 : tie.Need-returns-2
+unfolding numberBefore
+returns-2 c = search branches
+
+pub prior-spec : {M : Type 1} → statement M
+prior-spec = tie.close (tie.spec sub-result returns returns-2)
