@@ -2,7 +2,7 @@
 -- `packed-eight`: eight bytes of a list, packed into one number.
 -- `eight-found`: where two such numbers are equal, the bytes are the same.
 -- `passed-eight`: eight bytes that are the same leave it to the places after them.
-use Prim.Native.Nat.{ℕ, suc, _+_, _*_, _-_, _≤_, _<_, min, compare, Ordering}
+use Prim.Native.Nat.{ℕ, suc, _+_, _*_, _-_, _≤_, _<_, min}
 use mathlib.Core.Path.{_≡_, refl, sym, _∙_}
 use mathlib.Core.Bool.{Bool, true}
 use mathlib.Core.List.{List, [], _∷_, _++_}
@@ -11,9 +11,10 @@ use native.Mathlib.Omega.{arith}
 use lib.Dec.{eqb}
 use lib.ListN.{length, getD, take, drop, take-append-drop, length-take, length-drop}
 use lib.Seq.{drop-cons, drop-drop}
-use borrow.Author.Tests.{eqb-true}
-use Rattle.labels.specs.Labels.{Label, Comparison, numberOf, compareNumbers, compareAt, compareFrom}
-use Rattle.labels.proofs.Numbers.{Ordered, is-lt, is-eq, is-gt, ordered}
+use borrow.Author.Tests.{eqb-true, eq-eqb}
+use Rattle.labels.specs.Labels.{Label, numberOf, compareAt, compareFrom}
+use Rattle.labels.proofs.Numbers.{ordered}
+use Rattle.compares.proofs.Laws.{compare-equal}
 use Rattle.compares.specs.Compares.{AreBytes, Packed, packs-none, packs, SameEight, StartsWithin}
 
 -- ---- numbers made of bytes
@@ -80,20 +81,12 @@ eight-found x y i r s h k p q =
 
 -- ---- places that are the same
 
--- equal numbers leave it to the further places
-compare-equal : (n i : ℕ) (further : Comparison) → compareNumbers (compare n n) i further ≡ further
-compare-equal n i further = go (ordered n n)
-  where
-    go : {o : Ordering} → Ordered n n o → compareNumbers o i further ≡ further
-    go (is-lt less) = absurd (omega arith)
-    go (is-eq equal) = refl
-    go (is-gt more) = absurd (omega arith)
-
 -- a shared start is passed over
 shared-start : (i : ℕ) (a x y : Label) → compareAt i (a ++ x) (a ++ y) ≡ compareAt (i + length a) x y
 shared-start i [] x y = let e : i + 0 ≡ i = omega arith in rw e
 shared-start i (b ∷ a) x y =
-    compare-equal (numberOf b) i (compareAt (suc i) (a ++ x) (a ++ y))
+    let n = numberOf b in
+    compare-equal {m = n} {n = n} i (compareAt (suc i) (a ++ x) (a ++ y)) (ordered n n) (rw (eq-eqb n n refl))
     ∙ shared-start (suc i) a x y
     ∙ rw later
   where

@@ -1,4 +1,5 @@
 -- The comparison of two labels, by runs over the places from an index.
+-- `compare-equal`: equal numbers leave it to the further places.
 -- `unlike-smaller`, `unlike-larger`: the order of different bytes, from a test of their numbers.
 -- `one-unlike`, `one-alike`: a run over one place.  `run-short`, `run-both`: two runs in turn are one.
 -- `stops-from`, `passes-from`, `ends-from`: where a loop's run stops short, leaves the rest, or a label ends.
@@ -35,7 +36,7 @@ compare-unlike {m} {n} i further (is-eq equal) apart = absurd (true≢false (sym
 compare-unlike {m} {n} i further (is-gt more) apart = let beyond : n ≤ m = omega arith in rw (le-ltb m n beyond)
 
 -- what the comparison of two equal numbers leaves
-compare-equal : {m n : ℕ} {o : Ordering} (i : ℕ) (further : Comparison) → Ordered m n o → not (eqb m n) ≡ false
+pub compare-equal : {m n : ℕ} {o : Ordering} (i : ℕ) (further : Comparison) → Ordered m n o → not (eqb m n) ≡ false
     → compareNumbers o i further ≡ further
 compare-equal {m} {n} i further (is-lt less) alike =
     let apart : m ≢ n = λ e. omega arith in absurd (true≢false (rw (ne-eqb m n apart) at alike))

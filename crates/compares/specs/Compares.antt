@@ -36,7 +36,7 @@ atEnd m n i = cond (ltb i m) Larger (cond (ltb i n) Smaller Same)
 unfoldable pub rest : Label → Label → ℕ → Comparison
 rest x y i = compareAt (suc i) (drop i x) (drop i y)
 
--- what is left at index i, by a run over the n places from there: its order where it stops short, else the rest after them
+-- what is left at index i, by a run over the n places from there: its order where it stops short, and else the rest
 unfoldable pub restAfter : (n : ℕ) → Label → Label → (i : ℕ) → Run → Comparison
 restAfter n x y i t = cond (ltb (t .same) n) (comparisonBy (t .order) (i + t .same + 1)) (rest x y (i + n))
 

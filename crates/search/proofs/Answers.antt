@@ -1,6 +1,6 @@
 -- The answer of a walk, by the node that a loop has reached.
--- `walk-halted`: where there is no node to visit, it ends.  `walk-found`: where the label is found, it ends.
 -- `Reached`: the invariant of the loop.  `reached-root`: at the root.  `reached-son`: after a node's step.
+-- `walk-halted`: where there is no node to visit, it ends.  `walk-found`: where the label is found, it ends.
 -- `outcome-walked`: the outcome of a search that nothing turns away.
 use mathlib.Core.Path.{_≡_, refl, sym, ap, _∙_}
 use mathlib.Core.Logic.{_≢_}
@@ -42,6 +42,14 @@ counted-visited visits places examined e (ended s more) =
     let v : visits + 1 + length (s .visited) ≡ visits + suc (length (s .visited)) = omega arith in
     let p : places + examined + more ≡ places + (examined + more) = omega arith in
     rw (v, p)
+
+-- a walk has reached a link: the counts are within their bounds, and its answer from there on is the whole answer
+pub record Reached (limits : Limits) (table store : List ℕ) (x : Label) (whole : Answer) (link left places : ℕ)
+    (ends : List ℕ) : Type 0 where
+  pub within : left ≤ limits .depth
+  pub few : places ≤ 4097 * (limits .depth - left)
+  pub two : length ends ≡ 2
+  pub so : answerFrom limits table store x link left places ends ≡ whole
 
 module _ (limits : Limits) (table store : List ℕ) (x : Label) where
   -- at an empty link nothing more is visited
@@ -86,9 +94,9 @@ module _ (limits : Limits) (table store : List ℕ) (x : Label) where
   counted-onward left visits places p s examined row false e =
       counted-visited visits places examined e (steps limits table store x left (row .left) p s)
 
-  -- a walk at a link whose answer from there on is the whole answer
-  module _ (link left places : ℕ) (ends : List ℕ) (whole : Answer)
-      (so : answerFrom limits table store x link left places ends ≡ whole)
+  -- a walk has reached a link, which is tested
+  module _ (whole : Answer) (link left places : ℕ) (ends : List ℕ)
+      (at : Reached limits table store x whole link left places ends)
       (tested : Bool) (test : tested ≡ haltsAt limits table link left) where
     abbrev visits : ℕ
     visits = limits .depth - left
@@ -105,9 +113,10 @@ module _ (limits : Limits) (table store : List ℕ) (x : Label) where
             let none = eqb-true link 0 empty in
             let v : visits + 0 ≡ visits = omega arith in
             let p : places + 0 ≡ places = omega arith in
-            rw (e, empty) (rw (none, steps-missing, v, p) at so)
+            rw (e, empty) (rw (none, steps-missing, v, p) at (at .so))
         go false full all e =
-            rw (e, full) (rw (steps-broken left link (getD ends 0 0) (getD ends 1 0) (eqb-false link 0 full) all) at so)
+            let cut = steps-broken left link (getD ends 0 0) (getD ends 1 0) (eqb-false link 0 full) all in
+            rw (e, full) (rw cut at (at .so))
 
     module _ (fine : tested ≡ false) (row : Row) (read : row ≡ rowAt table link) where
       -- elsewhere it is that of the step taken
@@ -118,7 +127,7 @@ module _ (limits : Limits) (table store : List ℕ) (x : Label) where
       unfolding answerFrom
       walk-stepped =
           rw read (sym (ap (counted visits places)
-          (steps-node left link (getD ends 0 0) (getD ends 1 0) (sym test ∙ fine))) ∙ so)
+          (steps-node left link (getD ends 0 0) (getD ends 1 0) (sym test ∙ fine))) ∙ at .so)
 
       -- where the label is found, it ends
       pub walk-found : (examined more : ℕ) (a : SearchAnswer)
@@ -128,47 +137,33 @@ module _ (limits : Limits) (table store : List ℕ) (x : Label) where
           let none : examined + 0 ≡ examined = omega arith in
           rw (e, sum, read) (rw (← step, none) at walk-stepped)
 
-      -- where it is not, it goes on with the same answer
-      walk-onward : (right : Bool) (next more : ℕ) (after : List ℕ) → left ≤ limits .depth → next ≡ sonOf row right
-          → Went limits store x link row ends places right after more
-          → answerFrom limits table store x next (left - 1) more after ≡ whole
-      unfolding answerFrom
-      walk-onward right next more after within son went =
-          let room = live limits table link left tested test fine .room in
-          let one : limits .depth - (left - 1) ≡ visits + 1 = omega arith in
-          let goes = counted-onward (left - 1) visits places (getD after 0 0) (getD after 1 0) (went .examined) row right
-          (entryAt limits table store link) in
-          rw (son, one, went .sum) (sym goes ∙ rw (← (went .step)) at walk-stepped)
+      -- where it is not, it goes on to a son
+      module _ (right : Bool) (next more : ℕ) (after : List ℕ) (son : next ≡ sonOf row right)
+          (went : Went limits store x link row ends places right after more) where
+        one-more : limits .depth - (left - 1) ≡ visits + 1
+        one-more =
+            let room = live limits table link left tested test fine .room in let within = at .within in omega arith
 
--- a walk has reached a link: the counts are within their bounds, and its answer from there on is the whole answer
-pub record Reached (limits : Limits) (table store : List ℕ) (x : Label) (whole : Answer) (link left places : ℕ)
-    (ends : List ℕ) : Type 0 where
-  pub within : left ≤ limits .depth
-  pub few : places ≤ 4097 * (limits .depth - left)
-  pub two : length ends ≡ 2
-  pub so : answerFrom limits table store x link left places ends ≡ whole
+        -- with the same answer
+        walk-onward : answerFrom limits table store x next (left - 1) more after ≡ whole
+        unfolding answerFrom
+        walk-onward =
+            let goes = counted-onward (left - 1) visits places (getD after 0 0) (getD after 1 0) (went .examined) row
+            right (entryAt limits table store link) in
+            rw (son, one-more, went .sum) (sym goes ∙ rw (← (went .step)) at walk-stepped)
 
--- it goes on to a son
-pub reached-son : (limits : Limits) (table store : List ℕ) (x : Label) (whole : Answer) (link left places : ℕ)
-    (ends : List ℕ) (tested : Bool) (row : Row) (right : Bool) (next more : ℕ) (after : List ℕ)
-    → Reached limits table store x whole link left places ends
-    → tested ≡ haltsAt limits table link left → tested ≡ false → row ≡ rowAt table link → next ≡ sonOf row right
-    → Went limits store x link row ends places right after more
-    → Reached limits table store x whole next (left - 1) more after
-reached-son limits table store x whole link left places ends tested row right next more after at test fine read son went =
-    let room = live limits table link left tested test fine .room in
-    let few = at .few in
-    let within = at .within in
-    let one : limits .depth - (left - 1) ≡ limits .depth - left + 1 = omega arith in
-    let sum = went .sum in
-    let few-more = went .few in
-    record {
-      within = omega arith;
-      few = rw one (omega arith);
-      two = went .two;
-      so = walk-onward limits table store x link left places ends whole (at .so) tested test fine row read right next more
-          after (at .within) son went;
-    }
+        pub reached-son : Reached limits table store x whole next (left - 1) more after
+        reached-son =
+            let within = at .within in
+            let few = at .few in
+            let sum = went .sum in
+            let some = went .few in
+            record {
+              within = omega arith;
+              few = rw one-more (omega arith);
+              two = went .two;
+              so = walk-onward;
+            }
 
 -- at the root nothing is behind it
 pub reached-root : (limits : Limits) (table store : List ℕ) (x : Label) (root : ℕ)

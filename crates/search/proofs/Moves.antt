@@ -16,7 +16,7 @@ use Rattle.compares.specs.declared.Compared.{Compared}
 use Rattle.compares.specs.declared.Order.the-variants.{Smaller, Same, Larger}
 use Rattle.compares.specs.Compares.{comparisonOf}
 use Rattle.tables.specs.Words.{labelAt}
-use Rattle.tables.specs.Steps.{Step, stop}
+use Rattle.tables.specs.Steps.{Step, stop, compareStep}
 use Rattle.search.specs.declared.Turn.{Turn}
 use Rattle.search.specs.declared.Turn.the-variants.{Left, Right, Compare}
 use Rattle.search.specs.Walks.{reachedOn, turnOf, stepBy, rowStep}
@@ -81,6 +81,9 @@ module _ (limits : Limits) (store : List ℕ) (x : Label) (link : ℕ) (row : Ro
     abbrev examined : ℕ
     examined = c .place + 1 - row .place
 
+    step-here : (r : Step) → r ≡ compareStep (comparisonOf c) (row .place) p s → r ≡ rowStep limits store x link row p s
+    step-here r = row-compared limits store x link row p s reached t goes turns c r e found
+
     -- it sets the number of one side
     compared : (right : Bool) (side : ℕ)
         → stepBy false right (getD (set ends side (c .place)) 0 0) (getD (set ends side (c .place)) 1 0) examined
@@ -94,18 +97,15 @@ module _ (limits : Limits) (store : List ℕ) (x : Label) (link : ℕ) (row : Ro
     went-smaller o =
         let kept = getD-set-other ends 1 0 (c .place) 0 (λ z. omega arith) in
         let put = getD-set-same ends 1 (c .place) 0 (omega arith) in
-        let step = decide-smaller p s (row .place) c o in
-        compared false 1 (rw (kept, put) (row-compared limits store x link row p s reached t goes turns c _ e found step))
+        compared false 1 (rw (kept, put) (step-here _ (decide-smaller p s (row .place) c o)))
 
     pub went-larger : c .order ≡ Larger
         → Went limits store x link row ends places true (set ends 0 (c .place)) (places + examined)
     went-larger o =
         let kept = getD-set-other ends 0 1 (c .place) 0 (λ z. omega arith) in
         let put = getD-set-same ends 0 (c .place) 0 (omega arith) in
-        let step = decide-larger p s (row .place) c o in
-        compared true 0 (rw (kept, put) (row-compared limits store x link row p s reached t goes turns c _ e found step))
+        compared true 0 (rw (kept, put) (step-here _ (decide-larger p s (row .place) c o)))
 
     -- the label is found
     pub ended-same : c .order ≡ Same → stop examined ≡ rowStep limits store x link row p s
-    ended-same o =
-        row-compared limits store x link row p s reached t goes turns c _ e found (decide-same p s (row .place) c o)
+    ended-same o = step-here _ (decide-same p s (row .place) c o)

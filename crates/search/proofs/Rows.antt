@@ -2,7 +2,8 @@
 -- `bad-length`, `bad-place`, `bad-side`: the test of a row, by its parts.
 -- `halts-link`, `halts-deep`, `halts-row`: the test for no node to visit, by its parts.
 -- `tested-row`: a link that the first part lets through has a row.
--- `live`, `live-row`, `live-side`, `live-slot`: a link that the whole test lets through is that of a node, whose row is read.
+-- `live`: a link that the whole test lets through is that of a node.
+-- `live-row`, `live-side`, `live-slot`: its row can be read, its side is 0 or 1, and its label can be compared.
 use mathlib.Core.Path.{_≡_, refl, sym, _∙_}
 use mathlib.Core.Logic.{_≢_}
 use mathlib.Core.List.{List}

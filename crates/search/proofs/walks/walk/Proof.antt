@@ -30,12 +30,15 @@ module _ (c : tie.After-read-row Inv-loop μ-loop) where
   abbrev reached : tie.At-loop Inv-loop μ-loop
   reached = c .before .before .before
 
+  abbrev tested : tie.Else1 Inv-loop μ-loop
+  tested = c .before
+
   node : Live (start .args .limits) (start .args .table .now) (reached .loop .link) (reached .loop .left)
-  node = live _ _ _ _ _ (c .before .before .halts .ensures) (c .before .if1 .left)
+  node = live _ _ _ _ _ (tested .before .halts .ensures) (tested .if1 .left)
 
   slot : AtRow (start .args .limits) (start .args .store .now) (reached .loop .link) (c .read-row .result)
   slot =
-      live-slot _ _ _ _ _ (c .before .before .halts .ensures) (c .before .if1 .left) _ (start .pre) _ (c .read-row .ensures)
+      live-slot _ _ _ _ _ (tested .before .halts .ensures) (tested .if1 .left) _ (start .pre) _ (c .read-row .ensures)
 
 -- the row that was read, from where the turn is known
 abbrev read : tie.After-turn Inv-loop μ-loop → tie.After-read-row Inv-loop μ-loop
@@ -128,7 +131,7 @@ returns-2 c =
     let found = ended-same _ _ _ _ _ (loop .places) (loop .ends) _ (slot at) (loop .inv .two) (turn .turn .ensures)
     (compared .before .enum-told3 .given .1) _ (compared .compare-row .ensures .0) (compared .compare-row .ensures .1)
     (c .before .enum-told5 .given .1) in
-    walk-found _ _ _ _ _ _ _ _ _ (loop .inv .so) _ (at .before .before .halts .ensures) (at .before .if1 .left) _
+    walk-found _ _ _ _ _ _ _ _ _ (loop .inv) _ (tested at .before .halts .ensures) (tested at .if1 .left) _
     (at .read-row .ensures) _ _ _ found refl (omega arith)
 
 enum-told-6 : tie.Need-enum-told-6 Inv-loop μ-loop
@@ -178,8 +181,8 @@ loop-less c = let room = node (read (c .before .before)) .room in omega arith
 loop-again : tie.Need-loop-again Inv-loop μ-loop
 loop-again c =
     let at = read (c .before .before) in
-    reached-son _ _ _ _ _ _ _ _ _ _ _ _ _ _ _ (reached at .loop .inv) (at .before .before .halts .ensures)
-    (at .before .if1 .left) (at .read-row .ensures) (c .son .ensures) (went (c .before))
+    reached-son _ _ _ _ _ _ _ _ _ (reached at .loop .inv) _ (tested at .before .halts .ensures) (tested at .if1 .left) _
+    (at .read-row .ensures) _ _ _ _ (c .son .ensures) (went (c .before))
 
 pub walk-spec : {M : Type 1} → statement M
 walk-spec =
