@@ -1,21 +1,16 @@
-/* The workloads: labels from a fixed generator, held by every contestant, and the labels sought. */
+/* The workloads: labels held by every contestant, and labels sought. Nine are the benchmark's own; in two series more
+ * the labels held grow from 1 to 512, and the bytes in common from 0 to 56. */
 #ifndef WORKLOADS_H
 #define WORKLOADS_H
 
-#include "bench.h"
-#include <stdbool.h>
+#include "labels.h"
 
-enum { QUERIES = 1024, WORKLOADS = 9 };
-
-struct labels {
-    size_t count;
-    struct {
-        uint8_t bytes[WIDTH];
-        size_t len;
-    } at[QUERIES];
-};
+enum { NINE = 9, HELD_STEPS = 10, COMMON_STEPS = 15, WORKLOADS = NINE + HELD_STEPS + COMMON_STEPS };
 
 struct workload {
+    const char *series;     /* nine, held or common */
+    char name[80];          /* in the series held and common, how many */
+    const char *table_name; /* on the first of the nine that hold these labels: their name */
     struct labels labels, queries;
     uint16_t table[WORDS];
     uint8_t store[BYTES];
@@ -23,22 +18,14 @@ struct workload {
     void *map, *btree;
 };
 
-extern const char *const workload_name[WORKLOADS];
-
-/* The workload of this number, with its labels entered and its queries drawn. */
+/* The workload of this number, with its labels entered and its queries drawn. It stays until the next one is made. */
 struct workload *make(int number);
 
-/* Labels of `shared` bytes in common, then `least` to `most` random ones, from a seed. */
-void random_labels(struct labels *l, uint64_t seed, size_t count, size_t shared, size_t least, size_t most);
-
-/* Enters a workload's labels with every contestant. */
-void enter(struct workload *w);
+/* Whether checks and updates are measured on it beside searches. */
+bool has_updates(const struct workload *w);
 
 /* The value of a workload's label. */
 uint16_t value_at(size_t i);
-
-/* A random number below n. */
-size_t below(size_t n);
 
 /* Ends the program. */
 void fail(const char *what);

@@ -3,7 +3,7 @@
 pub mod nodes;
 pub mod walks;
 
-// Where a walk stands: the next link, the numbers P and S of the search steps, and the counts so far.
+// Where the search of an update stands: the next link, the numbers P and S of the search steps, and the counts so far.
 pub struct Spot {
     pub link: usize,
     pub p: usize,
@@ -19,7 +19,7 @@ pub enum Turn {
     Compare,
 }
 
-// What a node's step does: the label is found, or the walk goes to the right son or else to the left one.
+// What a node's step does there: the label is found, or the walk goes to the right son or else to the left one.
 // With it go P and S after the step, and the places that it examined.
 pub struct Step {
     pub found: bool,

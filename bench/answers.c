@@ -1,0 +1,87 @@
+/* Compares the contestants' answers on every workload, before anything is measured. */
+#include "contestants.h"
+
+enum { CHANGED_BITS = 4000 };
+
+static void compare_search(const struct workload *w, const uint8_t *x, size_t n)
+{
+    uint64_t said = strap_search(w->table, WORDS, w->store, BYTES, x, n);
+    uint64_t value = kind_of(said) == FOUND ? (uint64_t)value_of(said) + 1 : 0;
+    uint64_t whole = whole_counts(w->table, w->store, x, n);
+    if (kind_of(said) == REFUSED)
+        fail("a search was refused");
+    if (said != digital_search(w->table, WORDS, w->store, BYTES, x, n))
+        fail("the C of the same method answers otherwise");
+    if (kind_of(whole) != kind_of(said) || visits_of(whole) != visits_of(said) || places_of(whole) < places_of(said))
+        fail("the search with whole labels goes another way");
+    if (value != whole_search(w->table, w->store, x, n) || value != array_search(w->entries, w->labels.count, x, n) ||
+        value != map_search(w->map, x, n) || value != btree_search(w->btree, x, n))
+        fail("the contestants' answers differ");
+}
+
+/* ---- memory with a bit changed */
+
+struct bit {
+    bool in_table;
+    size_t at;
+    unsigned mask;
+};
+
+static struct bit any_bit(const struct workload *w)
+{
+    bool in_table = below(2) == 0, anywhere = below(4) == 0;
+    size_t slots = anywhere ? SLOTS : w->labels.count;
+    size_t at = below(in_table ? 4 + 8 * slots : WIDTH * slots);
+    return (struct bit){in_table, at, 1u << below(in_table ? 16 : 8)};
+}
+
+static void flip(struct workload *w, struct bit b)
+{
+    if (b.in_table)
+        w->table[b.at] ^= (uint16_t)b.mask;
+    else
+        w->store[b.at] ^= (uint8_t)b.mask;
+}
+
+/* The two soundness tests, and the two searches. */
+static void compare_changed(struct workload *w, const uint8_t *x, size_t n)
+{
+    struct bit b = any_bit(w);
+    flip(w, b);
+    if (strap_check(w->table, WORDS, w->store, BYTES) != sound_check(w->table, WORDS, w->store, BYTES))
+        fail("the soundness tests differ");
+    if (strap_search(w->table, WORDS, w->store, BYTES, x, n) != digital_search(w->table, WORDS, w->store, BYTES, x, n))
+        fail("the searches differ on broken memory");
+    flip(w, b);
+}
+
+/* ---- updates */
+
+static void see_sound(const uint16_t *table, const uint8_t *store)
+{
+    uint64_t done = pack(DONE, 0, 0, 0, 0);
+    if (strap_check(table, WORDS, store, BYTES) != done || sound_check(table, WORDS, store, BYTES) != done)
+        fail("a table is not sound");
+}
+
+static void compare_update(const struct update *u)
+{
+    update(u);
+    see_sound(u->table, u->store);
+    if (whole_search(u->table, u->store, u->label, u->n) != (u->inserts ? (uint64_t)u->value + 1 : 0))
+        fail("an update left another answer");
+}
+
+void compare_answers(void)
+{
+    for (int number = 0; number < WORKLOADS; number++) {
+        struct workload *w = make(number);
+        for (size_t i = 0; i < QUERIES; i++)
+            compare_search(w, w->queries.at[i].bytes, w->queries.at[i].len);
+        for (size_t i = 0; i < CHANGED_BITS; i++)
+            compare_changed(w, w->queries.at[i % QUERIES].bytes, w->queries.at[i % QUERIES].len);
+        see_sound(w->table, w->store);
+        if (has_updates(w))
+            each_update(w, compare_update);
+    }
+}
