@@ -2,7 +2,7 @@
 -- `chain-done`, `chain-ended`, `chain-outside`, `chain-broken`, `chain-on`: what the walk finds at a slot.
 -- `rest-outside`, `rest-broken`, `rest-bytes`: what the test of the rest finds.
 -- `rest-within`: the test of the rest stays within the store. `chain-fits`: the high mark is within the slots.
-use Prim.Native.Nat.{ℕ, zero, suc, _+_, _-_, _*_, _≤_, _<_}
+use Prim.Native.Nat.{ℕ, suc, _+_, _-_, _*_, _≤_, _<_}
 use mathlib.Core.Path.{_≡_, refl, sym, _∙_}
 use mathlib.Core.List.{List}
 use mathlib.Core.Bool.{Bool, true, false, _&&_}

@@ -1,6 +1,6 @@
 -- No slot stands twice in the free chain.
 -- `follows-once`: no slot stands twice in a chain that goes on from a link and ends.
-use mathlib.Core.List.{List, [], _∷_}
+use mathlib.Core.List.{List, _∷_}
 use mathlib.Core.Path.{_≡_, refl, ap}
 use Prim.Native.Nat.{ℕ, suc, _≤_}
 use native.Mathlib.Omega.{arith}

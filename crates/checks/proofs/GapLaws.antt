@@ -1,15 +1,17 @@
--- A label and its neighbours in the slots of the window.
--- `gap-starts`, `gap-smaller`, `gap-same`, `gap-larger`: two labels that are to ascend, by their comparison.
--- `below-none`, `below-some`, `above-none`, `above-some`: a label and the one in a slot of the window.
+-- A label and its neighbour in a slot of the window, below it or upward of it.
+-- `place-passed`: a difference place, where a test passes.
+-- `gap-starts`, `gap-smaller`, `gap-same`, `gap-larger`: two labels, by the comparison of the other one with this one.
 -- `beside-fits`, `held-read`: the label in a slot of the window is read from its part of the store.
+-- `beside-held`, `beside-none`, `beside-starts`, `beside-some`: a label and the one in the slot.
 use Prim.Native.Nat.{ℕ, zero, suc, _≤_}
-use mathlib.Core.Path.{_≡_, refl, sym, _∙_}
+use mathlib.Core.Path.{_≡_, refl, sym, ap, _∙_}
 use mathlib.Core.List.{List}
-use mathlib.Core.Bool.{cond}
+use mathlib.Core.Bool.{Bool, true, false, not, cond}
 use native.Mathlib.Omega.{arith}
 use Rattle.types.specs.declared.Limits.{Limits}
 use Rattle.types.specs.declared.Row.{Row}
-use Rattle.labels.specs.Labels.{Label, Comparison, placeOf, compareFrom, compareLabels, differencePlace}
+use Rattle.labels.specs.Labels.{Label, Comparison, smaller, same, larger, placeOf}
+use Rattle.labels.specs.Labels.{compareFrom, compareLabels, differencePlace}
 use Rattle.labels.specs.Neighbours.{held}
 use Rattle.trees.specs.Valid.{isSmaller}
 use Rattle.tables.specs.Words.{rowAt, labelAt, entryAt}
@@ -17,76 +19,78 @@ use Rattle.compares.specs.declared.Order.the-variants.{Smaller, Same, Larger}
 use Rattle.compares.specs.declared.Compared.{Compared}
 use Rattle.labels.proofs.Ends.{ends-of-labels}
 use Rattle.labels.proofs.Late.{compare-late}
+use Rattle.labels.proofs.Results.{mirrored, compare-mirrored}
 use Rattle.compares.specs.Compares.{comparisonBy, comparisonOf, StartsWithin}
-use Rattle.checks.specs.Check.{belowIn, aboveIn}
-use Rattle.checks.specs.Parts.{gapOf}
+use Rattle.checks.specs.Parts.{gapOf, gapToward, neighbourIn, gapIn}
 use Rattle.checks.specs.Fits.{PartFits, Beside, MayStart}
 use Rattle.checks.specs.declared.Gap.{Gap}
 use Rattle.checks.specs.declared.Gap.the-variants.{Wrong, Place}
 
--- ---- two labels that are to ascend
+-- ---- two labels
 
-module _ (x y : Label) (from : ℕ) (start : MayStart (held x) (held y) from) where
+-- the gap, by how the other label lies to this one
+abbrev gapBy : (upward : Bool) → Comparison → Gap
+gapBy upward (smaller i) = cond (not upward) (Place i) Wrong
+gapBy upward (same i) = Wrong
+gapBy upward (larger i) = cond upward (Place i) Wrong
+
+-- a difference place, where a test passes
+pub place-passed : (fine : Bool) (i : ℕ) → fine ≡ true → Place i ≡ cond fine (Place i) Wrong
+place-passed fine i passed = rw passed
+
+-- of labels that are to ascend it is the place of a comparison that finds them so
+ascending : (k : Comparison) → gapBy false k ≡ cond (isSmaller k) (Place (placeOf k)) Wrong
+ascending (smaller i) = refl
+ascending (same i) = refl
+ascending (larger i) = refl
+
+-- upward, the comparison is mirrored
+gap-mirrored : (k : Comparison) → gapBy true k ≡ gapBy false (mirrored k)
+gap-mirrored (smaller i) = refl
+gap-mirrored (same i) = refl
+gap-mirrored (larger i) = refl
+
+-- so the comparison of the other label with this one gives the gap
+gap-compared : (upward : Bool) (y x : Label) → gapBy upward (compareLabels y x) ≡ gapToward upward (held x) (held y)
+unfolding gapOf differencePlace
+gap-compared false y x = ascending (compareLabels y x)
+gap-compared true y x =
+    gap-mirrored (compareLabels y x) ∙ ap (gapBy false) (sym (compare-mirrored y x)) ∙ ascending (compareLabels x y)
+
+module _ (y x : Label) (from : ℕ) (start : MayStart (held y) (held x) from) where
   -- the comparison may start there
-  pub gap-starts : StartsWithin from y
+  pub gap-starts : StartsWithin from x
   unfolding differencePlace
-  gap-starts = let ends = ends-of-labels x y in record { low = start .low; high = omega arith }
+  gap-starts = let ends = ends-of-labels y x in record { low = start .low; high = omega arith }
 
   -- it finds what the whole one finds
-  whole : compareFrom from x y ≡ compareLabels x y
+  whole : compareFrom from y x ≡ compareLabels y x
   unfolding differencePlace
-  whole = let ends = ends-of-labels x y in compare-late from x y (start .low) (omega arith)
+  whole = let ends = ends-of-labels y x in compare-late from y x (start .low) (omega arith)
 
-  module _ (c : Compared) (so : comparisonOf c ≡ compareFrom from x y) where
-    -- by what the comparison finds
-    found : (k : Comparison) → comparisonOf c ≡ k
-        → cond (isSmaller k) (Place (placeOf k)) Wrong ≡ gapOf (held x) (held y)
-    unfolding gapOf differencePlace
-    found k e = rw (sym e ∙ so ∙ whole)
+  module _ (upward : Bool) (c : Compared) (so : comparisonOf c ≡ compareFrom from y x) where
+    -- by what it finds
+    found : (k : Comparison) → comparisonOf c ≡ k → gapBy upward k ≡ gapToward upward (held x) (held y)
+    found k e = ap (gapBy upward) (sym e ∙ so ∙ whole) ∙ gap-compared upward y x
 
-    -- they ascend
-    pub gap-smaller : c .order ≡ Smaller → Place (c .place) ≡ gapOf (held x) (held y)
-    gap-smaller o = found (comparisonBy Smaller (c .place)) (rw o)
+    -- the other one is smaller
+    pub gap-smaller : (r : Gap) → c .order ≡ Smaller → r ≡ cond (not upward) (Place (c .place)) Wrong
+        → r ≡ gapToward upward (held x) (held y)
+    gap-smaller r o e = e ∙ found (comparisonBy Smaller (c .place)) (rw o)
 
     -- they are alike
-    pub gap-same : c .order ≡ Same → Wrong ≡ gapOf (held x) (held y)
+    pub gap-same : c .order ≡ Same → Wrong ≡ gapToward upward (held x) (held y)
     gap-same o = found (comparisonBy Same (c .place)) (rw o)
 
-    -- they descend
-    pub gap-larger : c .order ≡ Larger → Wrong ≡ gapOf (held x) (held y)
-    gap-larger o = found (comparisonBy Larger (c .place)) (rw o)
+    -- the other one is larger
+    pub gap-larger : (r : Gap) → c .order ≡ Larger → r ≡ cond upward (Place (c .place)) Wrong
+        → r ≡ gapToward upward (held x) (held y)
+    gap-larger r o e = e ∙ found (comparisonBy Larger (c .place)) (rw o)
 
--- ---- the slots of the window
-
-module _ (limits : Limits) (table store : List ℕ) where
-  pub below-held : (k : ℕ) → (k ≡ 0 → ⊥) → belowIn limits table store k ≡ held (entryAt limits table store k .label)
-  below-held zero n = absurd (n refl)
-  below-held (suc k) n = refl
-
-  pub above-held : (k : ℕ) → (k ≡ 0 → ⊥) → aboveIn limits table store k ≡ held (entryAt limits table store k .label)
-  above-held zero n = absurd (n refl)
-  above-held (suc k) n = refl
+-- ---- a slot of the window
 
 module _ (limits : Limits) (table store : List ℕ) (k : ℕ) where
-  -- no slot below, and none above
-  pub below-none : (x : Label) → k ≡ 0 → Place 0 ≡ gapOf (belowIn limits table store k) (held x)
-  unfolding gapOf
-  below-none x e = rw e
-
-  pub above-none : (x : Label) → k ≡ 0 → Place 0 ≡ gapOf (held x) (aboveIn limits table store k)
-  unfolding gapOf
-  above-none x e = rw e
-
-  -- a slot below, and one above
-  pub below-some : (x y : Label) (r : Gap) → (k ≡ 0 → ⊥) → y ≡ entryAt limits table store k .label
-      → r ≡ gapOf (held y) (held x) → r ≡ gapOf (belowIn limits table store k) (held x)
-  below-some x y r n e f = rw (below-held limits table store k n) (rw e at f)
-
-  pub above-some : (x y : Label) (r : Gap) → (k ≡ 0 → ⊥) → y ≡ entryAt limits table store k .label
-      → r ≡ gapOf (held x) (held y) → r ≡ gapOf (held x) (aboveIn limits table store k)
-  above-some x y r n e f = rw (above-held limits table store k n) (rw e at f)
-
-  -- a slot of the window has its label in its part of the store
+  -- it has its label in its part of the store
   pub beside-fits : (row : Row) → Beside limits table store k → 1 ≤ k → row ≡ rowAt table k
       → PartFits limits store k (row .len)
   beside-fits row b low read =
@@ -102,11 +106,33 @@ module _ (limits : Limits) (table store : List ℕ) (k : ℕ) where
       → y ≡ entryAt limits table store k .label
   held-read row y e read = rw read at e
 
-  -- a comparison with a slot below, and with one above
-  pub below-starts : (x y : Label) (from : ℕ) → (k ≡ 0 → ⊥) → y ≡ entryAt limits table store k .label
-      → MayStart (belowIn limits table store k) (held x) from → MayStart (held y) (held x) from
-  below-starts x y from n e start = rw e (rw (below-held limits table store k n) at start)
+-- the neighbour in a slot that is not 0 is its label
+pub beside-held : (limits : Limits) (table store : List ℕ) (upward : Bool) (k : ℕ) → (k ≡ 0 → ⊥)
+    → neighbourIn limits table store upward k ≡ held (entryAt limits table store k .label)
+beside-held limits table store upward zero n = absurd (n refl)
+beside-held limits table store false (suc k) n = refl
+beside-held limits table store true (suc k) n = refl
 
-  pub above-starts : (x y : Label) (from : ℕ) → (k ≡ 0 → ⊥) → y ≡ entryAt limits table store k .label
-      → MayStart (held x) (aboveIn limits table store k) from → MayStart (held x) (held y) from
-  above-starts x y from n e start = rw e (rw (above-held limits table store k n) at start)
+module _ (limits : Limits) (table store : List ℕ) (upward : Bool) (k : ℕ) (x : Label) where
+  -- no slot
+  pub beside-none : k ≡ 0 → Place 0 ≡ gapIn limits table store upward k x
+  unfolding gapOf
+  beside-none e = rw e (missing upward)
+    where
+      missing : (upward : Bool) → Place 0 ≡ gapIn limits table store upward 0 x
+      missing false = refl
+      missing true = refl
+
+  module _ (y : Label) (n : k ≡ 0 → ⊥) (read : y ≡ entryAt limits table store k .label) where
+    -- the neighbour is that label
+    same-label : neighbourIn limits table store upward k ≡ held y
+    same-label = beside-held limits table store upward k n ∙ ap held (sym read)
+
+    -- it is compared from the same place on
+    pub beside-starts : (from : ℕ) → MayStart (neighbourIn limits table store upward k) (held x) from
+        → MayStart (held y) (held x) from
+    beside-starts from start = rw same-label at start
+
+    -- and has the same gap
+    pub beside-some : (r : Gap) → r ≡ gapToward upward (held x) (held y) → r ≡ gapIn limits table store upward k x
+    beside-some r e = rw same-label e

@@ -1,6 +1,8 @@
 pub mod ZeroLaws
+pub mod PassedLaws
 pub mod PartLaws
 pub mod GapLaws
+pub mod SideLaws
 pub mod WindowLaws
 pub mod NodeLaws
 pub mod OverLaws

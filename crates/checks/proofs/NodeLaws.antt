@@ -23,22 +23,23 @@ use Rattle.checks.proofs.PartLaws.{used-short}
 -- ---- place and side
 
 module _ (place side p q r s : ℕ) (inner : r ≡ max p q) (outer : s ≡ max 1 r) where
+  -- the place of the two difference places
+  place-is : s ≡ max 1 (max p q)
+  place-is = outer ∙ ap (λ m. max 1 m) inner
+
   -- the place is another
   pub place-wrong : (place ≡ s → ⊥) → false ≡ fieldsBy place side p q
   unfolding fieldsBy
-  place-wrong n = rw (ne-eqb place (max 1 (max p q)) (λ e. n (e ∙ sym (outer ∙ ap (λ m. max 1 m) inner))))
-
-  whole : place ≡ s → place ≡ max 1 (max p q)
-  whole e = e ∙ outer ∙ ap (λ m. max 1 m) inner
+  place-wrong n = rw (ne-eqb place (max 1 (max p q)) (λ e. n (e ∙ sym place-is)))
 
   -- the place is so, and the side decides
   pub side-below : place ≡ s → q ≤ p → eqb side 0 ≡ fieldsBy place side p q
   unfolding fieldsBy
-  side-below e h = rw (eq-eqb _ _ (whole e), le-leb _ _ h)
+  side-below e h = rw (eq-eqb _ _ (e ∙ place-is), le-leb _ _ h)
 
   pub side-above : place ≡ s → p < q → eqb side 1 ≡ fieldsBy place side p q
   unfolding fieldsBy
-  side-above e h = rw (eq-eqb _ _ (whole e), lt-leb _ _ h)
+  side-above e h = rw (eq-eqb _ _ (e ∙ place-is), lt-leb _ _ h)
 
 module _ (row : Row) (both : Gaps) where
   -- a label that is not in order
@@ -58,26 +59,26 @@ module _ (row : Row) (both : Gaps) where
 
 -- ---- the whole test of a node
 
--- two neighbours and the label between them, as two gaps
-gaps : (row : Row) (a b : Bool) (p q : ℕ)
+-- the fields of a label, from the tests of the order with both its neighbours
+fields-of-tests : (row : Row) (a b : Bool) (p q : ℕ)
     → fieldsFine row (gapsOf (cond a (Place p) Wrong) (cond b (Place q) Wrong))
     ≡ bothWhen (a && (b && fieldsBy (row .place) (row .side) p q)) p q
 unfolding fieldsFine
-gaps row true true p q = refl
-gaps row true false p q = refl
-gaps row false b p q = refl
+fields-of-tests row true true p q = refl
+fields-of-tests row true false p q = refl
+fields-of-tests row false b p q = refl
 
 -- a slot in use, whose fields decide
-placed : (limits : Limits) (table store : List ℕ) (k : ℕ) (p s : Neighbour)
+fields-decide : (limits : Limits) (table store : List ℕ) (k : ℕ) (p s : Neighbour)
     → usedRow limits store k (rowAt table k) ≡ true
     → fieldsFine (rowAt table k) (gapsOf (gapOf p (held (entryAt limits table store k .label)))
     (gapOf (held (entryAt limits table store k .label)) s))
     ≡ bothWhen (nodeFine limits table store k p s) (difference p (held (entryAt limits table store k .label)))
     (difference (held (entryAt limits table store k .label)) s)
 unfolding nodeFine usedRow gapOf fieldsBy
-placed limits table store k p s e =
+fields-decide limits table store k p s e =
     let x = held (entryAt limits table store k .label) in
-    rw e (gaps (rowAt table k) (isBefore p x) (isBefore x s) (difference p x) (difference x s))
+    rw e (fields-of-tests (rowAt table k) (isBefore p x) (isBefore x s) (difference p x) (difference x s))
 
 module _ (limits : Limits) (table store : List ℕ) (k : ℕ) (row : Row) (read : row ≡ rowAt table k)
     (t : Bool) (used : t ≡ usedRow limits store k row) where
@@ -105,5 +106,5 @@ module _ (limits : Limits) (table store : List ℕ) (k : ℕ) (row : Row) (read 
   unfolding fineGaps
   node-placed below above x both r e label found fine =
       fine
-      ∙ rw (found, label, read) (placed limits table store k (belowIn limits table store below)
+      ∙ rw (found, label, read) (fields-decide limits table store k (belowIn limits table store below)
       (aboveIn limits table store above) (sym (rw read at used) ∙ e))

@@ -1,9 +1,10 @@
 -- What the tests of one node say.
 -- `unsound-not-sound`: an unsound subtree is not sound.
+-- `before-of-test`, `test-of-before`, `test-of-after`: the test of the order is true exactly for what lies before.
 -- `node-passed`, `node-passes`: a node passes its test exactly where it is used, in order, its place and side true.
 -- `over-sound`, `sound-over`: a node is found sound exactly over sound sons, in the height rule, its balance true.
 use mathlib.Core.List.{List}
-use mathlib.Core.Path.{_≡_, refl}
+use mathlib.Core.Path.{_≡_, refl, ap}
 use mathlib.Core.Bool.{Bool, true, false, _&&_, cond}
 use Prim.Native.Nat.{ℕ, suc, _+_, _≤_, max}
 use native.Mathlib.Omega.{arith}
@@ -13,8 +14,11 @@ use borrow.Author.Tests.{leb-true, le-leb, eqb-true, eq-eqb}
 use Rattle.types.specs.declared.Limits.{Limits}
 use Rattle.labels.specs.Labels.{Label}
 use Rattle.labels.specs.Neighbours.{Neighbour, none-below, held, none-above}
-use Rattle.labels.proofs.Order.{none-below-held, held-none-above, below-none-below, none-above-below}
+use Rattle.labels.proofs.Order.{Below, below-none-below, none-above-below}
+use Rattle.labels.proofs.Order.{none-below-held, held-none-above, none-below-none-above}
+use Rattle.labels.proofs.Results.{compare-larger}
 use Rattle.labels.proofs.Difference.{Before, below-is-before}
+use Rattle.trees.specs.Valid.{isSmaller}
 use Rattle.trees.proofs.Views.{both-true}
 use Rattle.trees.proofs.Linked.{before-of-smaller, smaller-of-before}
 use Rattle.tables.specs.Words.{rowAt, entryAt}
@@ -29,23 +33,33 @@ use Rattle.trees.proofs.Passing.{and-true, false-not-true}
 pub unsound-not-sound : {A : Type 0} {h c : ℕ} → Unsound ≡ Sound h c → A
 unsound-not-sound is = let z : _≡_ {A = ℕ} 0 1 = cc in absurd (omega arith)
 
--- The test of the order with a neighbour below a label, and with one above it.
-pub above-of-test : (p : Neighbour) (x : Label) → isBefore p (held x) ≡ true → Before p (held x)
-above-of-test none-below x passed = below-is-before (none-below-held x)
-above-of-test (held y) x passed = before-of-smaller y x passed
-above-of-test none-above x passed = false-not-true passed
+-- A neighbour that passes the test of the order lies before the other.
+pub before-of-test : (a b : Neighbour) → isBefore a b ≡ true → Before a b
+before-of-test none-below none-below passed = false-not-true passed
+before-of-test none-below (held y) passed = below-is-before (none-below-held y)
+before-of-test none-below none-above passed = below-is-before none-below-none-above
+before-of-test (held x) none-below passed = false-not-true passed
+before-of-test (held x) (held y) passed = before-of-smaller x y passed
+before-of-test (held x) none-above passed = below-is-before (held-none-above x)
+before-of-test none-above b passed = false-not-true passed
 
-pub below-of-test : (x : Label) (s : Neighbour) → isBefore (held x) s ≡ true → Before (held x) s
-below-of-test x none-below passed = false-not-true passed
-below-of-test x (held y) passed = before-of-smaller x y passed
-below-of-test x none-above passed = below-is-before (held-none-above x)
-
+-- A neighbour that lies before another passes it.
 pub test-of-before : (a b : Neighbour) → Before a b → isBefore a b ≡ true
-test-of-before none-below b before = refl
+test-of-before none-below none-below before = absurd (below-none-below before)
+test-of-before none-below (held y) before = refl
+test-of-before none-below none-above before = refl
 test-of-before (held x) none-below before = absurd (below-none-below before)
 test-of-before (held x) (held y) before = smaller-of-before before
 test-of-before (held x) none-above before = refl
 test-of-before none-above b before = absurd (none-above-below before)
+
+-- A neighbour that lies after another fails it.
+pub test-of-after : (a b : Neighbour) {m : ℕ} → Below b a m → isBefore a b ≡ false
+test-of-after none-below b after = absurd (below-none-below after)
+test-of-after (held x) none-below after = refl
+test-of-after (held x) (held y) after = ap isSmaller (compare-larger after)
+test-of-after (held x) none-above after = absurd (none-above-below after)
+test-of-after none-above b after = refl
 
 -- slot k, with the label x, is used, in order between p and s, and has its true place and side
 pub record NodeFine (limits : Limits) (table store : List ℕ) (k : ℕ) (x : Label) (p s : Neighbour) : Type 0 where
@@ -68,8 +82,8 @@ module _ (limits : Limits) (table store : List ℕ) (k : ℕ) (p s : Neighbour) 
       let of-place = both-true _ _ .0 (of-below .1) in
       record {
         used = of-used .0;
-        above = above-of-test p x (of-above .0);
-        below = below-of-test x s (of-below .0);
+        above = before-of-test p (held x) (of-above .0);
+        below = before-of-test (held x) s (of-below .0);
         place = of-place .0;
         side = of-place .1;
       }

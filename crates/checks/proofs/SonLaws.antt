@@ -1,16 +1,18 @@
 -- The walk at a node and at its sons.
 -- `tree-wrong`: a node that its visit finds wrong makes the subtree unsound.
 -- `window-left`, `window-right`: the walk may go on at the sons, with the node's slot in their windows.
--- `tree-leaf`, `tree-right`, `tree-left-unsound`, `tree-left`, `tree-over`: what the sons give, both, one or none.
--- `tree-right-fits`, `tree-left-fits`, `tree-sons-fit`: the nodes below can be counted.
-use Prim.Native.Nat.{ℕ, zero, suc, _-_, _≤_}
+-- `tree-left-unsound`, `tree-over`, `tree-leaf`, `tree-right`, `tree-left`: what the sons give, both, none or one.
+-- `tree-sons-fit`, `tree-right-fits`, `tree-left-fits`: the nodes below can be counted.
+use Prim.Native.Nat.{ℕ, _-_, _≤_}
 use mathlib.Core.Path.{_≡_, refl, sym, _∙_}
 use mathlib.Core.List.{List}
+use mathlib.Core.Bool.{true, false}
 use native.Mathlib.Omega.{arith}
 use lib.Dec.{ltb}
 use borrow.Author.Tests.{ltb-false}
 use Rattle.types.specs.declared.Limits.{Limits}
 use Rattle.labels.specs.Neighbours.{held, difference}
+use Rattle.labels.proofs.Difference.{Before}
 use Rattle.tables.specs.Words.{rowAt, entryAt}
 use Rattle.checks.specs.Check.{belowIn, aboveIn, over, checkTree}
 use Rattle.checks.specs.Parts.{fineBetween, fineGaps, visited}
@@ -20,22 +22,10 @@ use Rattle.checks.specs.declared.Node.the-variants.{Wrong, Fine}
 use Rattle.checks.specs.declared.Subtree.{Subtree}
 use Rattle.checks.specs.declared.Subtree.the-variants.{Unsound, Sound}
 use Rattle.checks.proofs.NodeTests.{NodeFine, node-passed, test-of-before}
-use Rattle.checks.proofs.GapLaws.{below-held, above-held}
+use Rattle.checks.proofs.GapLaws.{beside-held}
 use Rattle.checks.proofs.OverLaws.{sons-fit}
-use Rattle.checks.proofs.TreeLaws.{found, sons, tree-step, small-tree, tree-none}
+use Rattle.checks.proofs.TreeLaws.{sons, small-tree, tree-node, tree-none}
 use Rattle.checks.proofs.VisitLaws.{Passed, wrong-found, fine-found, node-short}
-
--- a link that is not 0, with some height left
-at-node : (limits : Limits) (table store : List ℕ) (left link below above : ℕ) → (link ≡ 0 → ⊥) → (left ≡ 0 → ⊥)
-    → checkTree limits table store left link below above
-    ≡ found (ltb (limits .slots) link) (fineBetween limits table store link below above)
-    (sons limits table store (left - 1) link below above)
-at-node limits table store zero zero below above some deep = absurd (some refl)
-at-node limits table store (suc m) zero below above some deep = absurd (some refl)
-at-node limits table store zero (suc k) below above some deep = absurd (deep refl)
-at-node limits table store (suc m) (suc k) below above some deep =
-    let less : suc m - 1 ≡ m = omega arith in
-    tree-step limits table store m k below above ∙ rw less
 
 module _ (limits : Limits) (table store : List ℕ) (left link below above : ℕ)
     (some : link ≡ 0 → ⊥) (deep : left ≡ 0 → ⊥)
@@ -46,10 +36,11 @@ module _ (limits : Limits) (table store : List ℕ) (left link below above : ℕ
   tree-wrong e =
       wrong-found (ltb (limits .slots) link) (fineBetween limits table store link below above) _ _ (rowAt table link) _
       (sym seen ∙ e)
-      ∙ sym (at-node limits table store left link below above some deep)
+      ∙ sym (tree-node limits table store left link below above some deep)
 
   -- a fine node
   module _ (smaller larger balance lower upper : ℕ) (is-fine : v ≡ Fine smaller larger balance lower upper) where
+    -- what its visit says of it
     known : Passed (ltb (limits .slots) link) (fineBetween limits table store link below above)
         (difference (belowIn limits table store below) (held (entryAt limits table store link .label)))
         (difference (held (entryAt limits table store link .label)) (aboveIn limits table store above))
@@ -70,112 +61,101 @@ module _ (limits : Limits) (table store : List ℕ) (left link below above : ℕ
         (belowIn limits table store below) (aboveIn limits table store above)
     ordered = node-passed limits table store link _ _ (known .passed)
 
-    -- its left son lies below it
-    pub window-left : (apart : ℕ) → WalkFits limits table store left below above apart
-        → WalkFits limits table store (left - 1) below link lower
-    window-left apart fits =
-        record {
-          deep = omega arith;
-          between = record {
-            sizes = fits .between .sizes;
-            lower = fits .between .lower;
-            upper = window;
-            order = rw (above-held limits table store link some) (test-of-before _ _ (ordered .above));
-            parts = rw (above-held limits table store link some) (known .below);
-          };
-        }
+    module _ (apart : ℕ) (fits : WalkFits limits table store left below above apart) where
+      -- the walk may go on in a window of neighbours in order
+      walk-on : (low high place : ℕ) → Window limits table low → Window limits table high
+          → Before (belowIn limits table store low) (aboveIn limits table store high)
+          → place ≡ difference (belowIn limits table store low) (aboveIn limits table store high)
+          → WalkFits limits table store (left - 1) low high place
+      walk-on low high place lower upper before parts =
+          record {
+            deep = omega arith;
+            between = record {
+              sizes = fits .between .sizes;
+              lower = lower;
+              upper = upper;
+              order = test-of-before _ _ before;
+              parts = parts;
+            };
+          }
 
-    -- its right son lies above it
-    pub window-right : (apart : ℕ) → WalkFits limits table store left below above apart
-        → WalkFits limits table store (left - 1) link above upper
-    window-right apart fits =
-        record {
-          deep = omega arith;
-          between = record {
-            sizes = fits .between .sizes;
-            lower = window;
-            upper = fits .between .upper;
-            order = rw (below-held limits table store link some) (test-of-before _ _ (ordered .below));
-            parts = rw (below-held limits table store link some) (known .above);
-          };
-        }
+      -- its left son lies below it, its right son above it
+      pub window-left : WalkFits limits table store (left - 1) below link lower
+      window-left =
+          let node = beside-held limits table store true link some in
+          walk-on below link lower (fits .between .lower) window (rw node (ordered .above)) (rw node (known .below))
 
+      pub window-right : WalkFits limits table store (left - 1) link above upper
+      window-right =
+          let node = beside-held limits table store false link some in
+          walk-on link above upper window (fits .between .upper) (rw node (ordered .below)) (rw node (known .above))
+
+    -- the subtree is what its sons give
     over-sons : checkTree limits table store left link below above
         ≡ over balance (checkTree limits table store (left - 1) smaller below link)
         (checkTree limits table store (left - 1) larger link above)
     unfolding sons
     over-sons =
-        at-node limits table store left link below above some deep
+        tree-node limits table store left link below above some deep
         ∙ rw (known .inside, known .passed, known .left, known .right, known .balanced)
 
-    -- no left son
-    module _ (none : smaller ≡ 0) where
-      -- and no right son
-      pub tree-leaf : larger ≡ 0 → (r : Subtree) → r ≡ over balance (Sound 0 0) (Sound 0 0)
-          → r ≡ checkTree limits table store left link below above
-      tree-leaf also r e =
-          e
-          ∙ sym (over-sons ∙ rw (
-            sym (tree-none limits table store (left - 1) smaller below link none),
-            sym (tree-none limits table store (left - 1) larger link above also),
-          ))
-
-      -- a right son
-      module _ (b : Subtree) (right-son : b ≡ checkTree limits table store (left - 1) larger link above) where
-        pub tree-right : (r : Subtree) → r ≡ over balance (Sound 0 0) b
-            → r ≡ checkTree limits table store left link below above
-        tree-right r e =
-            e
-            ∙ sym (over-sons
-            ∙ rw (sym (tree-none limits table store (left - 1) smaller below link none), sym right-son))
-
-        pub tree-right-fits : left ≤ 64 → SonsFit 0 0 b
-        tree-right-fits fits =
-            sons-fit (left - 1) 0 0 (Sound 0 0) b (omega arith)
-            (rw (sym (tree-none limits table store (left - 1) smaller below link none))
-            at (small-tree limits table store (left - 1) smaller below link)) refl
-            (rw right-son (small-tree limits table store (left - 1) larger link above))
-
+    -- its left son is a
     module _ (a : Subtree) (left-son : a ≡ checkTree limits table store (left - 1) smaller below link) where
-      -- its left son is unsound
+      -- and unsound
       pub tree-left-unsound : a ≡ Unsound → Unsound ≡ checkTree limits table store left link below above
       unfolding over
       tree-left-unsound e = sym (over-sons ∙ rw (sym left-son ∙ e))
 
-      -- its left son is sound, and it has no right son
-      module _ (h c : ℕ) (sound : a ≡ Sound h c) (none : larger ≡ 0) where
-        pub tree-left : (r : Subtree) → r ≡ over balance (Sound h c) (Sound 0 0)
-            → r ≡ checkTree limits table store left link below above
-        tree-left r e =
-            e
-            ∙ sym (over-sons ∙ rw (
-              sym left-son ∙ sound,
-              sym (tree-none limits table store (left - 1) larger link above none),
-            ))
-
-        pub tree-left-fits : left ≤ 64 → SumsFit h c 0 0
-        tree-left-fits fits =
-            let fit = sons-fit (left - 1) h c a (Sound 0 0) (omega arith)
-            (rw left-son (small-tree limits table store (left - 1) smaller below link)) sound
-            (rw (sym (tree-none limits table store (left - 1) larger link above none))
-            at (small-tree limits table store (left - 1) larger link above)) in
-            record {
-              left-low = fit .low;
-              left-counted = fit .counted;
-              right-low = omega arith;
-              right-counted = fit .small .1;
-            }
-
-      module _ (h c : ℕ) (b : Subtree) (sound : a ≡ Sound h c)
+      -- and sound, and its right son is b
+      module _ (h c : ℕ) (sound : a ≡ Sound h c) (b : Subtree)
           (right-son : b ≡ checkTree limits table store (left - 1) larger link above) where
-        -- its left son is sound
         pub tree-over : (r : Subtree) → r ≡ over balance (Sound h c) b
             → r ≡ checkTree limits table store left link below above
         tree-over r e = e ∙ sym (over-sons ∙ rw (sym left-son ∙ sound, sym right-son))
 
-        -- its sons can be counted
+        -- their nodes can be counted
         pub tree-sons-fit : left ≤ 64 → SonsFit h c b
         tree-sons-fit fits =
             sons-fit (left - 1) h c a b (omega arith)
             (rw left-son (small-tree limits table store (left - 1) smaller below link)) sound
             (rw right-son (small-tree limits table store (left - 1) larger link above))
+
+    -- a son that is missing is sound and empty
+    no-left : smaller ≡ 0 → Sound 0 0 ≡ checkTree limits table store (left - 1) smaller below link
+    no-left = tree-none limits table store (left - 1) smaller below link
+
+    no-right : larger ≡ 0 → Sound 0 0 ≡ checkTree limits table store (left - 1) larger link above
+    no-right = tree-none limits table store (left - 1) larger link above
+
+    -- no son
+    pub tree-leaf : smaller ≡ 0 → larger ≡ 0 → (r : Subtree) → r ≡ over balance (Sound 0 0) (Sound 0 0)
+        → r ≡ checkTree limits table store left link below above
+    tree-leaf none also = tree-over (Sound 0 0) (no-left none) 0 0 refl (Sound 0 0) (no-right also)
+
+    -- no left son
+    module _ (none : smaller ≡ 0) (b : Subtree)
+        (right-son : b ≡ checkTree limits table store (left - 1) larger link above) where
+      pub tree-right : (r : Subtree) → r ≡ over balance (Sound 0 0) b
+          → r ≡ checkTree limits table store left link below above
+      tree-right = tree-over (Sound 0 0) (no-left none) 0 0 refl b right-son
+
+      pub tree-right-fits : left ≤ 64 → SonsFit 0 0 b
+      tree-right-fits = tree-sons-fit (Sound 0 0) (no-left none) 0 0 refl b right-son
+
+    -- no right son
+    module _ (none : larger ≡ 0) (a : Subtree)
+        (left-son : a ≡ checkTree limits table store (left - 1) smaller below link)
+        (h c : ℕ) (sound : a ≡ Sound h c) where
+      pub tree-left : (r : Subtree) → r ≡ over balance (Sound h c) (Sound 0 0)
+          → r ≡ checkTree limits table store left link below above
+      tree-left = tree-over a left-son h c sound (Sound 0 0) (no-right none)
+
+      pub tree-left-fits : left ≤ 64 → SumsFit h c 0 0
+      tree-left-fits fits =
+          let fit = tree-sons-fit a left-son h c sound (Sound 0 0) (no-right none) fits in
+          record {
+            left-low = fit .low;
+            left-counted = fit .counted;
+            right-low = omega arith;
+            right-counted = fit .small .1;
+          }

@@ -1,18 +1,37 @@
 -- The whole test, from what its parts find.
+-- `root-fits`: the walk over the tree may start at the root.
 -- `count-unsound`, `count-sound`: the number of nodes of a tree.
 -- `sound-held`, `sound-unused`, `sound-counted`, `sound-chain`: the test fails at a part, or is as its last part.
 use Prim.Native.Nat.{ℕ, _-_, _≤_, _<_}
-use mathlib.Core.Path.{_≡_, sym, _∙_}
+use mathlib.Core.Path.{_≡_, refl, sym, _∙_}
 use mathlib.Core.List.{List}
 use mathlib.Core.Bool.{Bool, true, false}
+use native.Mathlib.Omega.{arith}
 use lib.Dec.{eqb}
 use borrow.Author.Tests.{le-leb, lt-leb}
 use Rattle.types.specs.declared.Limits.{Limits}
 use Rattle.tables.specs.Words.{rootLink, labelsHeld, firstFree, highMark}
 use Rattle.tables.specs.Sound.{unusedSlots}
+use Rattle.words.specs.Limits.{SizesFit}
+use Rattle.checks.specs.Fits.{WalkFits}
 use Rattle.checks.specs.Check.{checkTree, checkChain, countIs, soundByWalks}
 use Rattle.checks.specs.declared.Subtree.{Subtree}
 use Rattle.checks.specs.declared.Subtree.the-variants.{Unsound, Sound}
+
+-- the walk may start at the root, whose neighbours are both missing
+pub root-fits : (limits : Limits) (table store : List ℕ) → SizesFit limits table store
+    → WalkFits limits table store (limits .depth) 0 0 0
+root-fits limits table store sizes =
+    record {
+      deep = sizes .fit .depth;
+      between = record {
+        sizes = sizes;
+        lower = record { within = omega arith; short = λ low. absurd (omega arith) };
+        upper = record { within = omega arith; short = λ low. absurd (omega arith) };
+        order = refl;
+        parts = refl;
+      };
+    }
 
 module _ (held : ℕ) (tree : Subtree) where
   -- an unsound tree has no number of nodes

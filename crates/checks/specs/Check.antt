@@ -23,8 +23,11 @@ abbrev pub aboveIn : Limits → (table store : List ℕ) → ℕ → Neighbour
 aboveIn limits table store zero = none-above
 aboveIn limits table store (suc k) = held (entryAt limits table store (suc k) .label)
 
+-- whether a neighbour lies before another
 abbrev pub isBefore : Neighbour → Neighbour → Bool
-isBefore none-below b = true
+isBefore none-below none-below = false
+isBefore none-below (held y) = true
+isBefore none-below none-above = true
 isBefore (held x) none-below = false
 isBefore (held x) (held y) = isSmaller (compareLabels x y)
 isBefore (held x) none-above = true

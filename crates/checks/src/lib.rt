@@ -62,16 +62,8 @@ pub fn sound_within(limits: Limits, table: &[u16], store: &[u8]) -> bool
     if !walks::unused_slots(limits, table, store, high) {
         return false;
     }
-    let tree = walks::check_tree(
-        limits,
-        table,
-        store,
-        limits.depth,
-        table[0] as usize,
-        0,
-        0,
-        0,
-    );
+    let root = table[0] as usize;
+    let tree = walks::check_tree(limits, table, store, limits.depth, root, 0, 0, 0);
     if !count_is(held, tree) {
         return false;
     }

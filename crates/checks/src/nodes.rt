@@ -6,14 +6,14 @@ use compares::Order;
 use types::Limits;
 use types::Row;
 ghost use mathlib.Core.Path.{_≡_};
+ghost use mathlib.Core.Bool.{cond};
 ghost use Prim.Native.Nat.{_≤_, max};
 ghost use lib.ListN.{drop};
 ghost use Rattle.labels.specs.Neighbours.{held};
 ghost use Rattle.tables.specs.Words.{labelAt, partAt, entryAt};
 ghost use Rattle.tables.specs.Sound.{allZero, zeroBesidesLeft};
-ghost use Rattle.checks.specs.Parts.{usedRow, freedRow, gapOf, gapBelow, gapAbove};
-ghost use Rattle.checks.specs.Parts.{gapsIn, fieldsBy, fieldsFine, fineGaps};
-ghost use Rattle.checks.specs.Check.{belowIn, aboveIn};
+ghost use Rattle.checks.specs.Parts.{usedRow, freedRow, gapToward, toward, neighbourIn, gapIn};
+ghost use Rattle.checks.specs.Parts.{bothToward, gapsIn, fieldsBy, fieldsFine, fineGaps};
 ghost use Rattle.checks.specs.Fits.{PartFits, Beside, MayStart, Between, NodeFits};
 
 // The larger of two numbers.
@@ -100,17 +100,32 @@ pub fn freed_row(limits: Limits, store: &[u8], slot: usize, row: Row) -> bool
     part_zero(limits, store, slot, 0)
 }
 
-// The difference place of two labels that are to ascend, and that agree before some place.
-fn gap(lower: &[u8], upper: &[u8], from: usize) -> Gap
-    requires { ⌜ MayStart (held (now lower)) (held (now upper)) from ⌝ }
-    ensures { λ r. ⌜ r ≡ gapOf (held (now (lower .entry))) (held (now (upper .entry))) ⌝ }
+// Of two numbers the one for a side: that below, or upward that above.
+fn toward(upward: bool, below: usize, above: usize) -> usize
+    ensures { λ r. ⌜ r ≡ toward upward below above ⌝ }
 {
-    let compared = compares::eights::compare(lower, upper, from);
+    if upward { above } else { below }
+}
+
+// A difference place, where a test passes.
+fn place_when(fine: bool, place: usize) -> Gap
+    ensures { λ r. ⌜ r ≡ cond fine (Gap.Place place) Gap.Wrong ⌝ }
+{
+    if fine { Gap::Place(place) } else { Gap::Wrong }
+}
+
+// The difference place of a label with another, which is to lie below it, or upward of it, and agrees with it before
+// some place.
+fn gap(other: &[u8], label: &[u8], upward: bool, from: usize) -> Gap
+    requires { ⌜ MayStart (held (now other)) (held (now label)) from ⌝ }
+    ensures { λ r. ⌜ r ≡ gapToward upward (held (now (label .entry))) (held (now (other .entry))) ⌝ }
+{
+    let compared = compares::eights::compare(other, label, from);
     let order = compared.order;
     match order {
-        Order::Smaller => Gap::Place(compared.place),
+        Order::Smaller => place_when(!upward, compared.place),
         Order::Same => Gap::Wrong,
-        Order::Larger => Gap::Wrong,
+        Order::Larger => place_when(upward, compared.place),
     }
 }
 
@@ -124,112 +139,73 @@ fn held_label<'a>(limits: Limits, table: &[u16], store: &'a [u8], slot: usize) -
     label_at(limits, store, slot, row.len as usize)
 }
 
-// The difference place of a label with the one in the slot below, 0 where there is none.
-fn gap_below(
+// The difference place of a label with its neighbour in a slot, below it or upward of it, 0 where there is none.
+fn gap_beside(
     limits: Limits,
     table: &[u16],
     store: &[u8],
     label: &[u8],
-    below: usize,
+    upward: bool,
+    slot: usize,
     from: usize,
 ) -> Gap
-    requires { ⌜ Beside limits (now table) (now store) below ⌝ }
-    requires { ⌜ MayStart (belowIn limits (now table) (now store) below) (held (now label)) from ⌝ }
-    ensures { λ r. ⌜ r ≡ gapBelow limits (now (table .entry)) (now (store .entry)) below (now (label .entry)) ⌝ }
+    requires { ⌜ Beside limits (now table) (now store) slot ⌝ }
+    requires { ⌜ MayStart (neighbourIn limits (now table) (now store) upward slot) (held (now label)) from ⌝ }
+    ensures { λ r. ⌜ r ≡ gapIn limits (now (table .entry)) (now (store .entry)) upward slot (now (label .entry)) ⌝ }
 {
-    if below == 0 {
+    if slot == 0 {
         return Gap::Place(0);
     }
-    gap(held_label(limits, table, store, below), label, from)
+    gap(held_label(limits, table, store, slot), label, upward, from)
 }
 
-// The difference place of a label with the one in the slot above, 0 where there is none.
-fn gap_above(
+// Two difference places, with the neighbour on a side and with the other one, in order.
+fn both(upward: bool, near: usize, far: usize) -> Gaps
+    ensures { λ r. ⌜ r ≡ bothToward upward near far ⌝ }
+{
+    Gaps::Both {
+        lower: toward(upward, near, far),
+        upper: toward(upward, far, near),
+    }
+}
+
+// Both difference places, by the one with the neighbour on a side. The other neighbour is compared only where the first
+// is that of the window, and from there on.
+fn gaps_from(
     limits: Limits,
     table: &[u16],
     store: &[u8],
     label: &[u8],
-    above: usize,
-    from: usize,
-) -> Gap
-    requires { ⌜ Beside limits (now table) (now store) above ⌝ }
-    requires { ⌜ MayStart (held (now label)) (aboveIn limits (now table) (now store) above) from ⌝ }
-    ensures { λ r. ⌜ r ≡ gapAbove limits (now (table .entry)) (now (store .entry)) above (now (label .entry)) ⌝ }
-{
-    if above == 0 {
-        return Gap::Place(0);
-    }
-    gap(label, held_label(limits, table, store, above), from)
-}
-
-// Both difference places, by a full comparison with the label below. The one above is compared only where the first is
-// that of the window, and from there on.
-fn gaps_from_below(
-    limits: Limits,
-    table: &[u16],
-    store: &[u8],
-    label: &[u8],
+    upward: bool,
+    first: Gap,
     below: usize,
     above: usize,
     apart: usize,
 ) -> Gaps
     requires { ⌜ Between limits (now table) (now store) below above apart ⌝ }
+    requires { ⌜ first ≡ gapIn limits (now table) (now store) upward (toward upward below above) (now label) ⌝ }
     ensures { λ r. ⌜ r ≡ gapsIn limits (now (table .entry)) (now (store .entry)) below (now (label .entry)) above ⌝ }
 {
-    let lower = gap_below(limits, table, store, label, below, 1);
-    let Gap::Place(p) = lower else {
+    let Gap::Place(near) = first else {
         return Gaps::Broken;
     };
-    if p < apart {
+    if near < apart {
         return Gaps::Broken;
     }
-    if apart < p {
-        return Gaps::Both {
-            lower: p,
-            upper: apart,
-        };
+    if apart < near {
+        return both(upward, near, apart);
     }
-    let upper = gap_above(limits, table, store, label, above, larger(1, apart));
-    let Gap::Place(q) = upper else {
+    let other = toward(!upward, below, above);
+    let from = larger(1, apart);
+    let second = gap_beside(limits, table, store, label, !upward, other, from);
+    let Gap::Place(far) = second else {
         return Gaps::Broken;
     };
-    Gaps::Both { lower: p, upper: q }
+    both(upward, near, far)
 }
 
-// The same by a full comparison with the label above.
-fn gaps_from_above(
-    limits: Limits,
-    table: &[u16],
-    store: &[u8],
-    label: &[u8],
-    below: usize,
-    above: usize,
-    apart: usize,
-) -> Gaps
-    requires { ⌜ Between limits (now table) (now store) below above apart ⌝ }
-    ensures { λ r. ⌜ r ≡ gapsIn limits (now (table .entry)) (now (store .entry)) below (now (label .entry)) above ⌝ }
-{
-    let upper = gap_above(limits, table, store, label, above, 1);
-    let Gap::Place(q) = upper else {
-        return Gaps::Broken;
-    };
-    if q < apart {
-        return Gaps::Broken;
-    }
-    if apart < q {
-        return Gaps::Both {
-            lower: apart,
-            upper: q,
-        };
-    }
-    let lower = gap_below(limits, table, store, label, below, larger(1, apart));
-    let Gap::Place(p) = lower else {
-        return Gaps::Broken;
-    };
-    Gaps::Both { lower: p, upper: q }
-}
-
-// Both difference places, where the side says with which label the full comparison is the longer one.
+// Both difference places. The neighbour that the side names is compared in full: in a sound table the label agrees with
+// it at least as long as with the other one.
 fn gaps(
     limits: Limits,
     table: &[u16],
@@ -244,10 +220,11 @@ fn gaps(
     ensures { λ r. ⌜ r ≡ gapsIn limits (now (table .entry)) (now (store .entry)) below (now (label .entry)) above ⌝ }
 {
     if side == 0 {
-        gaps_from_below(limits, table, store, label, below, above, apart)
-    } else {
-        gaps_from_above(limits, table, store, label, below, above, apart)
+        let low = gap_beside(limits, table, store, label, false, below, 1);
+        return gaps_from(limits, table, store, label, false, low, below, above, apart);
     }
+    let high = gap_beside(limits, table, store, label, true, above, 1);
+    gaps_from(limits, table, store, label, true, high, below, above, apart)
 }
 
 // Whether place and side are those of the two difference places.

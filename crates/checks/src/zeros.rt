@@ -1,8 +1,6 @@
 // Whether bytes or words are all zero. Eight bytes are read as one number, which is 0 where each of them is.
 ghost use mathlib.Core.Path.{_≡_};
 ghost use Prim.Native.Nat.{_+_, _*_, _≤_};
-ghost use mathlib.Core.List.{[], _∷_};
-ghost use lib.Dec.{eqb};
 ghost use lib.ListN.{length, take, drop};
 ghost use Rattle.tables.specs.Sound.{allZero};
 ghost use Rattle.checks.specs.Fits.{InFours};

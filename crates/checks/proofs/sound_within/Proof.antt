@@ -1,9 +1,8 @@
 -- `sound_within` meets its contract: one law for each way out.
 use native.Mathlib.Omega.{arith}
 use borrow.Author.Tests.{not-true, not-false}
-use Rattle.checks.proofs.SoundLaws.{sound-held, sound-unused, sound-counted, sound-chain}
+use Rattle.checks.proofs.SoundLaws.{root-fits, sound-held, sound-unused, sound-counted, sound-chain}
 use Rattle.checks.proofs.ChainLaws.{chain-fits}
-use Rattle.checks.proofs.WindowLaws.{root-fits}
 use borrow.Author.Needs.{needs}
 use Rattle.checks.proofs.sound_within.Statement.{statement}
 use Rattle.checks.proofs.sound_within.Tie as tie
@@ -29,11 +28,11 @@ unused-slots-requires c κs = search needs
 returns-2 : tie.Need-returns-2
 returns-2 c = search (sound-unused, not-true)
 
-shared-slice-read-check-tree : tie.Need-shared-slice-read-check-tree
-shared-slice-read-check-tree c = search needs
+shared-slice-read-root : tie.Need-shared-slice-read-root
+shared-slice-read-root c = search needs
 
-cast-check-tree : tie.Need-cast-check-tree
-cast-check-tree c = omega (arith, c .shared-slice-known5 .given 0)
+cast-root : tie.Need-cast-root
+cast-root c = omega (arith, c .shared-slice-known5 .given 0)
 
 check-tree-requires : tie.Need-check-tree-requires
 check-tree-requires c κs = search root-fits
@@ -70,8 +69,8 @@ sound-within-spec =
     returns
     unused-slots-requires
     returns-2
-    shared-slice-read-check-tree
-    cast-check-tree
+    shared-slice-read-root
+    cast-root
     check-tree-requires
     count-is-requires
     returns-3

@@ -10,11 +10,17 @@ compare-requires c κs = search gap-starts
 enum-told : tie.Need-enum-told
 enum-told c = search needs
 
+place-when-requires : tie.Need-place-when-requires
+place-when-requires c κs = search needs
+
 enum-told-2 : tie.Need-enum-told-2
 enum-told-2 c = search needs
 
 enum-told-3 : tie.Need-enum-told-3
 enum-told-3 c = search needs
+
+place-when-requires-2 : tie.Need-place-when-requires-2
+place-when-requires-2 c κs = search needs
 
 returns : tie.Need-returns
 returns c = search gap-smaller
@@ -28,4 +34,13 @@ returns-3 c = search gap-larger
 pub gap-spec : {M : Type 1} → statement M
 gap-spec =
     tie.close
-    (tie.spec compare-requires enum-told enum-told-2 enum-told-3 returns returns-2 returns-3)
+    (tie.spec
+    compare-requires
+    enum-told
+    place-when-requires
+    enum-told-2
+    enum-told-3
+    place-when-requires-2
+    returns
+    returns-2
+    returns-3)

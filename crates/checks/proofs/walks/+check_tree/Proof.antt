@@ -10,7 +10,7 @@ use borrow.Fn.Kinds.{In}
 use borrow.Fn.PlainCycle.{Measures, is, falls, and}
 use Rattle.checks.proofs.walks.check_tree.Reads as check-tree
 use Rattle.checks.proofs.walks.check_tree.Kinds as check-tree-kinds
-use Rattle.checks.proofs.walks.+check_tree.Lts-check_tree as check-tree-lts
+use Rattle.checks.proofs.walks.+check_tree.Lts-check_tree as lts
 use Rattle.checks.proofs.walks.over_left.Reads as over-left-reads
 use Rattle.checks.proofs.walks.over_sound.Reads as over-sound-reads
 use Rattle.checks.proofs.walks.visit.Reads as visit-reads
@@ -20,6 +20,7 @@ use Rattle.checks.proofs.walks.+check_tree.Tie.{close}
 abbrev μ-check-tree : Measures 2 check-tree-kinds.ps ℕ
 μ-check-tree κs a = a .1 .1 .1 .0
 
+-- entered with measure t, and with a smaller one
 abbrev check-tree-at : ℕ → In 2 check-tree-kinds.ps
 check-tree-at t =
     and 2 check-tree-kinds.ps (is 2 check-tree-kinds.ps μ-check-tree t) check-tree.Pre
@@ -28,315 +29,115 @@ abbrev check-tree-below : ℕ → In 2 check-tree-kinds.ps
 check-tree-below t =
     and 2 check-tree-kinds.ps (falls 2 check-tree-kinds.ps _<_ μ-check-tree t) check-tree.Pre
 
-check-tree-returns : (t : ℕ) → check-tree-lts.Need-returns (
-  visit-reads.Asked,
-  visit-reads.Learnt,
-  over-sound-reads.Asked,
-  over-sound-reads.Learnt,
-  check-tree-below t,
-  check-tree.Post,
-  over-left-reads.Asked,
-  over-left-reads.Learnt,
-) (check-tree-at t) check-tree.Post
-check-tree-returns t c = search tree-none
+module _ (t : ℕ) where
+  -- what each callee asks and tells
+  abbrev claims : lts.Claims
+  claims = (
+    visit-reads.Asked,
+    visit-reads.Learnt,
+    over-sound-reads.Asked,
+    over-sound-reads.Learnt,
+    check-tree-below t,
+    check-tree.Post,
+    over-left-reads.Asked,
+    over-left-reads.Learnt,
+  )
 
-check-tree-returns-2 : (t : ℕ) → check-tree-lts.Need-returns-2 (
-  visit-reads.Asked,
-  visit-reads.Learnt,
-  over-sound-reads.Asked,
-  over-sound-reads.Learnt,
-  check-tree-below t,
-  check-tree.Post,
-  over-left-reads.Asked,
-  over-left-reads.Learnt,
-) (check-tree-at t) check-tree.Post
-check-tree-returns-2 t c = search tree-deep
+  abbrev entry : In 2 check-tree-kinds.ps
+  entry = check-tree-at t
 
-check-tree-visit-requires : (t : ℕ) → check-tree-lts.Need-visit-requires (
-  visit-reads.Asked,
-  visit-reads.Learnt,
-  over-sound-reads.Asked,
-  over-sound-reads.Learnt,
-  check-tree-below t,
-  check-tree.Post,
-  over-left-reads.Asked,
-  over-left-reads.Learnt,
-) (check-tree-at t) check-tree.Post
-check-tree-visit-requires t c κs = search needs
+  returns : lts.Need-returns claims entry check-tree.Post
+  returns c = search tree-none
 
-check-tree-enum-known-node : (t : ℕ) → check-tree-lts.Need-enum-known-node (
-  visit-reads.Asked,
-  visit-reads.Learnt,
-  over-sound-reads.Asked,
-  over-sound-reads.Learnt,
-  check-tree-below t,
-  check-tree.Post,
-  over-left-reads.Asked,
-  over-left-reads.Learnt,
-) (check-tree-at t) check-tree.Post
-check-tree-enum-known-node t c = search needs
+  returns-2 : lts.Need-returns-2 claims entry check-tree.Post
+  returns-2 c = search tree-deep
 
-check-tree-enum-told : (t : ℕ) → check-tree-lts.Need-enum-told (
-  visit-reads.Asked,
-  visit-reads.Learnt,
-  over-sound-reads.Asked,
-  over-sound-reads.Learnt,
-  check-tree-below t,
-  check-tree.Post,
-  over-left-reads.Asked,
-  over-left-reads.Learnt,
-) (check-tree-at t) check-tree.Post
-check-tree-enum-told t c = search needs
+  visit-requires : lts.Need-visit-requires claims entry check-tree.Post
+  visit-requires c κs = search needs
 
-check-tree-returns-3 : (t : ℕ) → check-tree-lts.Need-returns-3 (
-  visit-reads.Asked,
-  visit-reads.Learnt,
-  over-sound-reads.Asked,
-  over-sound-reads.Learnt,
-  check-tree-below t,
-  check-tree.Post,
-  over-left-reads.Asked,
-  over-left-reads.Learnt,
-) (check-tree-at t) check-tree.Post
-check-tree-returns-3 t c = search tree-wrong
+  enum-known-node : lts.Need-enum-known-node claims entry check-tree.Post
+  enum-known-node c = search needs
 
-check-tree-over-sound-requires : (t : ℕ) → check-tree-lts.Need-over-sound-requires (
-  visit-reads.Asked,
-  visit-reads.Learnt,
-  over-sound-reads.Asked,
-  over-sound-reads.Learnt,
-  check-tree-below t,
-  check-tree.Post,
-  over-left-reads.Asked,
-  over-left-reads.Learnt,
-) (check-tree-at t) check-tree.Post
-check-tree-over-sound-requires t c κs = search needs
+  enum-told : lts.Need-enum-told claims entry check-tree.Post
+  enum-told c = search needs
 
-check-tree-returns-4 : (t : ℕ) → check-tree-lts.Need-returns-4 (
-  visit-reads.Asked,
-  visit-reads.Learnt,
-  over-sound-reads.Asked,
-  over-sound-reads.Learnt,
-  check-tree-below t,
-  check-tree.Post,
-  over-left-reads.Asked,
-  over-left-reads.Learnt,
-) (check-tree-at t) check-tree.Post
-check-tree-returns-4 t c = search tree-leaf
+  returns-3 : lts.Need-returns-3 claims entry check-tree.Post
+  returns-3 c = search tree-wrong
 
-check-tree-sub-check-tree : (t : ℕ) → check-tree-lts.Need-sub-check-tree (
-  visit-reads.Asked,
-  visit-reads.Learnt,
-  over-sound-reads.Asked,
-  over-sound-reads.Learnt,
-  check-tree-below t,
-  check-tree.Post,
-  over-left-reads.Asked,
-  over-left-reads.Learnt,
-) (check-tree-at t) check-tree.Post
-check-tree-sub-check-tree t c = search needs
+  over-sound-requires : lts.Need-over-sound-requires claims entry check-tree.Post
+  over-sound-requires c κs = search needs
 
-check-tree-check-tree-requires : (t : ℕ) → check-tree-lts.Need-check-tree-requires (
-  visit-reads.Asked,
-  visit-reads.Learnt,
-  over-sound-reads.Asked,
-  over-sound-reads.Learnt,
-  check-tree-below t,
-  check-tree.Post,
-  over-left-reads.Asked,
-  over-left-reads.Learnt,
-) (check-tree-at t) check-tree.Post
-check-tree-check-tree-requires t c κs = (omega arith, search window-right)
+  returns-4 : lts.Need-returns-4 claims entry check-tree.Post
+  returns-4 c = search tree-leaf
 
-check-tree-over-left-requires : (t : ℕ) → check-tree-lts.Need-over-left-requires (
-  visit-reads.Asked,
-  visit-reads.Learnt,
-  over-sound-reads.Asked,
-  over-sound-reads.Learnt,
-  check-tree-below t,
-  check-tree.Post,
-  over-left-reads.Asked,
-  over-left-reads.Learnt,
-) (check-tree-at t) check-tree.Post
-check-tree-over-left-requires t c κs = search tree-right-fits
+  sub-check-tree : lts.Need-sub-check-tree claims entry check-tree.Post
+  sub-check-tree c = search needs
 
-check-tree-returns-5 : (t : ℕ) → check-tree-lts.Need-returns-5 (
-  visit-reads.Asked,
-  visit-reads.Learnt,
-  over-sound-reads.Asked,
-  over-sound-reads.Learnt,
-  check-tree-below t,
-  check-tree.Post,
-  over-left-reads.Asked,
-  over-left-reads.Learnt,
-) (check-tree-at t) check-tree.Post
-check-tree-returns-5 t c = search tree-right
+  check-tree-requires : lts.Need-check-tree-requires claims entry check-tree.Post
+  check-tree-requires c κs = (omega arith, search window-right)
 
-check-tree-sub-check-tree-2 : (t : ℕ) → check-tree-lts.Need-sub-check-tree-2 (
-  visit-reads.Asked,
-  visit-reads.Learnt,
-  over-sound-reads.Asked,
-  over-sound-reads.Learnt,
-  check-tree-below t,
-  check-tree.Post,
-  over-left-reads.Asked,
-  over-left-reads.Learnt,
-) (check-tree-at t) check-tree.Post
-check-tree-sub-check-tree-2 t c = search needs
+  over-left-requires : lts.Need-over-left-requires claims entry check-tree.Post
+  over-left-requires c κs = search tree-right-fits
 
-check-tree-check-tree-requires-2 : (t : ℕ) → check-tree-lts.Need-check-tree-requires-2 (
-  visit-reads.Asked,
-  visit-reads.Learnt,
-  over-sound-reads.Asked,
-  over-sound-reads.Learnt,
-  check-tree-below t,
-  check-tree.Post,
-  over-left-reads.Asked,
-  over-left-reads.Learnt,
-) (check-tree-at t) check-tree.Post
-check-tree-check-tree-requires-2 t c κs = (omega arith, search window-left)
+  returns-5 : lts.Need-returns-5 claims entry check-tree.Post
+  returns-5 c = search tree-right
 
-check-tree-enum-known-low : (t : ℕ) → check-tree-lts.Need-enum-known-low (
-  visit-reads.Asked,
-  visit-reads.Learnt,
-  over-sound-reads.Asked,
-  over-sound-reads.Learnt,
-  check-tree-below t,
-  check-tree.Post,
-  over-left-reads.Asked,
-  over-left-reads.Learnt,
-) (check-tree-at t) check-tree.Post
-check-tree-enum-known-low t c = search needs
+  sub-check-tree-2 : lts.Need-sub-check-tree-2 claims entry check-tree.Post
+  sub-check-tree-2 c = search needs
 
-check-tree-enum-told-2 : (t : ℕ) → check-tree-lts.Need-enum-told-2 (
-  visit-reads.Asked,
-  visit-reads.Learnt,
-  over-sound-reads.Asked,
-  over-sound-reads.Learnt,
-  check-tree-below t,
-  check-tree.Post,
-  over-left-reads.Asked,
-  over-left-reads.Learnt,
-) (check-tree-at t) check-tree.Post
-check-tree-enum-told-2 t c = search needs
+  check-tree-requires-2 : lts.Need-check-tree-requires-2 claims entry check-tree.Post
+  check-tree-requires-2 c κs = (omega arith, search window-left)
 
-check-tree-returns-6 : (t : ℕ) → check-tree-lts.Need-returns-6 (
-  visit-reads.Asked,
-  visit-reads.Learnt,
-  over-sound-reads.Asked,
-  over-sound-reads.Learnt,
-  check-tree-below t,
-  check-tree.Post,
-  over-left-reads.Asked,
-  over-left-reads.Learnt,
-) (check-tree-at t) check-tree.Post
-check-tree-returns-6 t c = search tree-left-unsound
+  enum-known-low : lts.Need-enum-known-low claims entry check-tree.Post
+  enum-known-low c = search needs
 
-check-tree-over-sound-requires-2 : (t : ℕ) → check-tree-lts.Need-over-sound-requires-2 (
-  visit-reads.Asked,
-  visit-reads.Learnt,
-  over-sound-reads.Asked,
-  over-sound-reads.Learnt,
-  check-tree-below t,
-  check-tree.Post,
-  over-left-reads.Asked,
-  over-left-reads.Learnt,
-) (check-tree-at t) check-tree.Post
-check-tree-over-sound-requires-2 t c κs = search tree-left-fits
+  enum-told-2 : lts.Need-enum-told-2 claims entry check-tree.Post
+  enum-told-2 c = search needs
 
-check-tree-returns-7 : (t : ℕ) → check-tree-lts.Need-returns-7 (
-  visit-reads.Asked,
-  visit-reads.Learnt,
-  over-sound-reads.Asked,
-  over-sound-reads.Learnt,
-  check-tree-below t,
-  check-tree.Post,
-  over-left-reads.Asked,
-  over-left-reads.Learnt,
-) (check-tree-at t) check-tree.Post
-check-tree-returns-7 t c = search tree-left
+  returns-6 : lts.Need-returns-6 claims entry check-tree.Post
+  returns-6 c = search tree-left-unsound
 
-check-tree-sub-check-tree-3 : (t : ℕ) → check-tree-lts.Need-sub-check-tree-3 (
-  visit-reads.Asked,
-  visit-reads.Learnt,
-  over-sound-reads.Asked,
-  over-sound-reads.Learnt,
-  check-tree-below t,
-  check-tree.Post,
-  over-left-reads.Asked,
-  over-left-reads.Learnt,
-) (check-tree-at t) check-tree.Post
-check-tree-sub-check-tree-3 t c = search needs
+  over-sound-requires-2 : lts.Need-over-sound-requires-2 claims entry check-tree.Post
+  over-sound-requires-2 c κs = search tree-left-fits
 
-check-tree-check-tree-requires-3 : (t : ℕ) → check-tree-lts.Need-check-tree-requires-3 (
-  visit-reads.Asked,
-  visit-reads.Learnt,
-  over-sound-reads.Asked,
-  over-sound-reads.Learnt,
-  check-tree-below t,
-  check-tree.Post,
-  over-left-reads.Asked,
-  over-left-reads.Learnt,
-) (check-tree-at t) check-tree.Post
-check-tree-check-tree-requires-3 t c κs = (omega arith, search window-right)
+  returns-7 : lts.Need-returns-7 claims entry check-tree.Post
+  returns-7 c = search tree-left
 
-check-tree-over-left-requires-2 : (t : ℕ) → check-tree-lts.Need-over-left-requires-2 (
-  visit-reads.Asked,
-  visit-reads.Learnt,
-  over-sound-reads.Asked,
-  over-sound-reads.Learnt,
-  check-tree-below t,
-  check-tree.Post,
-  over-left-reads.Asked,
-  over-left-reads.Learnt,
-) (check-tree-at t) check-tree.Post
-check-tree-over-left-requires-2 t c κs = search tree-sons-fit
+  sub-check-tree-3 : lts.Need-sub-check-tree-3 claims entry check-tree.Post
+  sub-check-tree-3 c = search needs
 
-check-tree-returns-8 : (t : ℕ) → check-tree-lts.Need-returns-8 (
-  visit-reads.Asked,
-  visit-reads.Learnt,
-  over-sound-reads.Asked,
-  over-sound-reads.Learnt,
-  check-tree-below t,
-  check-tree.Post,
-  over-left-reads.Asked,
-  over-left-reads.Learnt,
-) (check-tree-at t) check-tree.Post
-check-tree-returns-8 t c = search tree-over
+  check-tree-requires-3 : lts.Need-check-tree-requires-3 claims entry check-tree.Post
+  check-tree-requires-3 c κs = (omega arith, search window-right)
+
+  over-left-requires-2 : lts.Need-over-left-requires-2 claims entry check-tree.Post
+  over-left-requires-2 c κs = search tree-sons-fit
+
+  returns-8 : lts.Need-returns-8 claims entry check-tree.Post
+  returns-8 c = search tree-over
 
 pub +check-tree-spec : {M : Type 1} → statement M
-+check-tree-spec = close μ-check-tree λ t. check-tree-lts.spec (
-  visit-reads.Asked,
-  visit-reads.Learnt,
-  over-sound-reads.Asked,
-  over-sound-reads.Learnt,
-  check-tree-below t,
-  check-tree.Post,
-  over-left-reads.Asked,
-  over-left-reads.Learnt,
-)
-    (check-tree-at t)
-    check-tree.Post
-    (check-tree-returns t)
-    (check-tree-returns-2 t)
-    (check-tree-visit-requires t)
-    (check-tree-enum-known-node t)
-    (check-tree-enum-told t)
-    (check-tree-returns-3 t)
-    (check-tree-over-sound-requires t)
-    (check-tree-returns-4 t)
-    (check-tree-sub-check-tree t)
-    (check-tree-check-tree-requires t)
-    (check-tree-over-left-requires t)
-    (check-tree-returns-5 t)
-    (check-tree-sub-check-tree-2 t)
-    (check-tree-check-tree-requires-2 t)
-    (check-tree-enum-known-low t)
-    (check-tree-enum-told-2 t)
-    (check-tree-returns-6 t)
-    (check-tree-over-sound-requires-2 t)
-    (check-tree-returns-7 t)
-    (check-tree-sub-check-tree-3 t)
-    (check-tree-check-tree-requires-3 t)
-    (check-tree-over-left-requires-2 t)
-    (check-tree-returns-8 t)
++check-tree-spec =
+    close μ-check-tree λ t. lts.spec (claims t) (entry t) check-tree.Post
+    (returns t)
+    (returns-2 t)
+    (visit-requires t)
+    (enum-known-node t)
+    (enum-told t)
+    (returns-3 t)
+    (over-sound-requires t)
+    (returns-4 t)
+    (sub-check-tree t)
+    (check-tree-requires t)
+    (over-left-requires t)
+    (returns-5 t)
+    (sub-check-tree-2 t)
+    (check-tree-requires-2 t)
+    (enum-known-low t)
+    (enum-told-2 t)
+    (returns-6 t)
+    (over-sound-requires-2 t)
+    (returns-7 t)
+    (sub-check-tree-3 t)
+    (check-tree-requires-3 t)
+    (over-left-requires-2 t)
+    (returns-8 t)

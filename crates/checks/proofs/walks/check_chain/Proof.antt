@@ -1,7 +1,6 @@
 -- `walks::check_chain` meets its contract.
 -- The loop's invariant: what is left of the chain is as the whole of it. The measure is the number of slots left.
 use borrow.Author.Needs.{needs}
-use native.Mathlib.Omega.{arith}
 use mathlib.Core.Path.{_≡_, refl}
 use borrow.Author.Tests.{not-true, not-false}
 use Rattle.checks.specs.Check.{checkChain}

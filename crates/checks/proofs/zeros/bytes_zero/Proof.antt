@@ -1,5 +1,5 @@
 -- `zeros::bytes_zero` meets its contract.
--- Both loops' invariant: the bytes before i are zero, so that from each of them on it is as from start on.
+-- Both loops' invariant: all bytes passed are zero, so that the test from any of them on is that from start on.
 -- The measure is what is left of the length.
 use Prim.Native.Nat.{_-_, _≤_}
 use mathlib.Core.Path.{refl}
@@ -7,7 +7,7 @@ use native.Mathlib.Omega.{arith}
 use lib.ListN.{length}
 use borrow.Author.Needs.{needs}
 use borrow.Author.Tests.{not-true, not-false}
-use Rattle.checks.proofs.ZeroLaws.{PassedTo, passed-start, passed-broken, passed-on, passed-last}
+use Rattle.checks.proofs.PassedLaws.{PassedTo, passed-start, passed-broken, passed-on, passed-last}
 use Rattle.checks.proofs.zeros.bytes_zero.Statement.{statement}
 use Rattle.checks.proofs.zeros.bytes_zero.Tie as tie
 
@@ -18,10 +18,10 @@ abbrev μ-loop : tie.MeasureT-loop
 μ-loop bytes start last i₀ i = length bytes - i
 
 abbrev Inv-loop2 : tie.InvT-loop2
-Inv-loop2 bytes start last i₀ i = (i ≤ length bytes) × PassedTo bytes start i
+Inv-loop2 = Inv-loop
 
 abbrev μ-loop2 : tie.MeasureT-loop2
-μ-loop2 bytes start last i₀ i = length bytes - i
+μ-loop2 = μ-loop
 
 sub-if1 : tie.Need-sub-if1 Inv-loop μ-loop Inv-loop2 μ-loop2
 sub-if1 c = omega arith

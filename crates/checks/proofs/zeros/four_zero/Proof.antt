@@ -4,55 +4,42 @@ use Rattle.checks.proofs.ZeroLaws.{four-words-zero}
 use Rattle.checks.proofs.zeros.four_zero.Statement.{statement}
 use Rattle.checks.proofs.zeros.four_zero.Tie as tie
 
--- src/zeros.rt:39:16
 mul-four-words : tie.Need-mul-four-words
 mul-four-words c = search needs
 
--- src/zeros.rt:39:16
 shared-slice-read-four-words : tie.Need-shared-slice-read-four-words
 shared-slice-read-four-words c = search needs
 
--- src/zeros.rt:39:32
 add-four-words : tie.Need-add-four-words
 add-four-words c = search needs
 
--- src/zeros.rt:39:26
 mul-four-words-2 : tie.Need-mul-four-words-2
 mul-four-words-2 c = search needs
 
--- src/zeros.rt:39:26
 shared-slice-read-four-words-2 : tie.Need-shared-slice-read-four-words-2
 shared-slice-read-four-words-2 c = search needs
 
--- src/zeros.rt:39:46
 add-four-words-2 : tie.Need-add-four-words-2
 add-four-words-2 c = search needs
 
--- src/zeros.rt:39:40
 mul-four-words-3 : tie.Need-mul-four-words-3
 mul-four-words-3 c = search needs
 
--- src/zeros.rt:39:40
 shared-slice-read-four-words-3 : tie.Need-shared-slice-read-four-words-3
 shared-slice-read-four-words-3 c = search needs
 
--- src/zeros.rt:39:60
 add-four-words-3 : tie.Need-add-four-words-3
 add-four-words-3 c = search needs
 
--- src/zeros.rt:39:54
 mul-four-words-4 : tie.Need-mul-four-words-4
 mul-four-words-4 c = search needs
 
--- src/zeros.rt:39:54
 shared-slice-read-four-words-4 : tie.Need-shared-slice-read-four-words-4
 shared-slice-read-four-words-4 c = search needs
 
--- src/zeros.rt:39:5
 four-words-requires : tie.Need-four-words-requires
 four-words-requires c κs = search needs
 
--- src/zeros.rt:35:1
 returns : tie.Need-returns
 returns c = search four-words-zero
 
