@@ -162,7 +162,7 @@ fn by_three(x: &[u8], y: &[u8], from: usize, end: usize) -> Compared
     by_one(x, y, i, end)
 }
 
-// How x lies to y by the places from d on. Most searches part at place d: it stands before the threes.
+// How x lies to y by the places from d on. Most comparisons of a search end at place d: it is tested before the threes.
 pub fn compare(x: &[u8], y: &[u8], d: usize) -> Compared
     requires { ⌜ StartsWithin d (now y) ⌝ }
     ensures { λ r. ⌜ comparisonOf r ≡ compareFrom d (now (x .entry)) (now (y .entry)) ⌝ }
