@@ -4,18 +4,17 @@
 -- `one-unlike`, `one-alike`: a run over one place.  `run-short`, `run-both`: two runs in turn are one.
 -- `stops-from`, `passes-from`, `ends-from`: where a loop's run stops short, leaves the rest, or a label ends.
 -- `from-end`, `from-stop`, `from-on`: the whole comparison, by its first place.
-use Prim.Native.Nat.{ℕ, suc, _+_, _-_, _≤_, _<_, min, compare, Ordering, Ordering·lt, Ordering·eq, Ordering·gt}
-use mathlib.Core.Path.{_≡_, refl, sym, ap, _∙_}
+use Prim.Native.Nat.{ℕ, suc, _+_, _-_, _≤_, _<_, min, compare, Ordering}
+use mathlib.Core.Path.{_≡_, refl, sym, _∙_}
 use mathlib.Core.Logic.{_≢_}
 use mathlib.Core.Bool.{Bool, true, false, not, cond, true≢false}
-use mathlib.Core.List.{List, _∷_}
 use native.Mathlib.Numerals.{add-one}
 use native.Mathlib.Omega.{arith}
 use lib.Dec.{ltb, leb, eqb}
 use lib.ListN.{length, getD, drop, drop-of-length-le}
 use lib.Seq.{drop-cons}
 use borrow.Author.Tests.{lt-ltb, le-ltb, eq-eqb, ne-eqb, leb-true}
-use Rattle.labels.specs.Labels.{Label, Comparison, smaller, same, larger}
+use Rattle.labels.specs.Labels.{Label, Comparison}
 use Rattle.labels.specs.Labels.{numberOf, compareNumbers, compareAt, compareFrom}
 use Rattle.labels.proofs.Numbers.{Ordered, is-lt, is-eq, is-gt, ordered, Ltb, lt-yes, lt-no, ltb-view}
 use Rattle.compares.specs.declared.Order.{Order}

@@ -2,7 +2,7 @@
 -- `Went`: the son, the array and the places after the step.  `went-as`: the same of equal values.
 -- `went-left`, `went-right`: a turn without a comparison.  `went-smaller`, `went-larger`: by the comparison's order.
 -- `ended-same`: the label is found.
-use mathlib.Core.Path.{_≡_, refl, sym, _∙_}
+use mathlib.Core.Path.{_≡_, refl}
 use mathlib.Core.List.{List}
 use mathlib.Core.Bool.{Bool, true, false}
 use Prim.Native.Nat.{ℕ, zero, suc, _+_, _-_, _≤_}

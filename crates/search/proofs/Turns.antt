@@ -3,7 +3,7 @@
 -- `compared-row`: the bytes compared are the label of the slot.
 -- `turn-level`: the turn where the walk has reached the node's place.
 -- `row-left`, `row-right`, `row-compared`: the step at the node, by its turn.  `after-step`: the spot after it.
-use mathlib.Core.Path.{_≡_, refl, sym, _∙_}
+use mathlib.Core.Path.{_≡_, refl, _∙_}
 use mathlib.Core.List.{List}
 use mathlib.Core.Bool.{Bool, true, false, cond}
 use Prim.Native.Nat.{ℕ, zero, suc, _+_, _-_, _≤_, compare, Ordering, Ordering·lt, Ordering·eq, Ordering·gt}

@@ -3,8 +3,6 @@ use Rattle.labels.proofs.Branches.{branches}
 use Rattle.compares.specs.Compares.{atEnd}
 use Rattle.compares.proofs.at_end.Statement.{statement}
 use Rattle.compares.proofs.at_end.Tie as tie
-use Rattle.compares.proofs.at_end.Reads as reads
-use Rattle.compares.proofs.at_end.Lts as lts
 
 -- src/lib.rt:55:9
 returns : tie.Need-returns

@@ -3,9 +3,6 @@ use Rattle.compares.specs.Compares.{differ}
 use borrow.Author.Needs.{needs}
 use Rattle.compares.proofs.differ.Statement.{statement}
 use Rattle.compares.proofs.differ.Tie as tie
-use Rattle.compares.proofs.differ.Reads as reads
-use Rattle.compares.proofs.differ.Lts as lts
-use Rattle.compares.proofs.number.Reads as number-reads
 
 number-requires : tie.Need-number-requires
 number-requires c κs = search needs

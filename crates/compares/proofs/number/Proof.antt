@@ -4,8 +4,6 @@ use Rattle.labels.specs.Labels.{numberOf}
 use borrow.Author.Needs.{needs}
 use Rattle.compares.proofs.number.Statement.{statement}
 use Rattle.compares.proofs.number.Tie as tie
-use Rattle.compares.proofs.number.Reads as reads
-use Rattle.compares.proofs.number.Lts as lts
 
 -- src/lib.rt:25:5
 add-result : tie.Need-add-result

@@ -3,9 +3,6 @@ use Rattle.compares.proofs.Laws.{unlike-smaller, unlike-larger}
 use borrow.Author.Needs.{needs}
 use Rattle.compares.proofs.unlike.Statement.{statement}
 use Rattle.compares.proofs.unlike.Tie as tie
-use Rattle.compares.proofs.unlike.Reads as reads
-use Rattle.compares.proofs.unlike.Lts as lts
-use Rattle.compares.proofs.number.Reads as number-reads
 
 number-requires : tie.Need-number-requires
 number-requires c κs = search needs

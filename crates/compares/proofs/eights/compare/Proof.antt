@@ -1,6 +1,5 @@
 -- `eights::compare` meets its contract: the eights that are the same leave it to the places after them.
 use mathlib.Core.Path.{_∙_}
-use native.Mathlib.Omega.{arith}
 use borrow.Author.Needs.{needs}
 use Rattle.compares.proofs.Laws.{rest-start}
 use Rattle.compares.proofs.eights.compare.Statement.{statement}

@@ -1,12 +1,8 @@
 -- `search::nodes::bad_row` meets its contract, by its three tests.
-use native.Mathlib.Omega.{arith}
 use Rattle.search.proofs.Rows.{bad-length, bad-place, bad-side}
 use borrow.Author.Needs.{needs}
 use Rattle.search.proofs.nodes.bad_row.Statement.{statement}
 use Rattle.search.proofs.nodes.bad_row.Tie as tie
-use Rattle.search.proofs.nodes.bad_row.Reads as reads
-use Rattle.search.proofs.nodes.bad_row.Lts as lts
-use Rattle.search.proofs.nodes.prior.Reads as prior-reads
 
 cast-if1 : tie.Need-cast-if1
 cast-if1 c = search needs

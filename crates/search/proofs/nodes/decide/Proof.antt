@@ -3,8 +3,6 @@ use Rattle.search.proofs.Turns.{decide-smaller, decide-same, decide-lar
 use borrow.Author.Needs.{needs}
 use Rattle.search.proofs.nodes.decide.Statement.{statement}
 use Rattle.search.proofs.nodes.decide.Tie as tie
-use Rattle.search.proofs.nodes.decide.Reads as reads
-use Rattle.search.proofs.nodes.decide.Lts as lts
 
 add-examined : tie.Need-add-examined
 add-examined c = search needs

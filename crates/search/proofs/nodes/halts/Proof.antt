@@ -3,11 +3,6 @@ use Rattle.search.proofs.Rows.{tested-row, halts-link, halts-deep, halt
 use borrow.Author.Needs.{needs}
 use Rattle.search.proofs.nodes.halts.Statement.{statement}
 use Rattle.search.proofs.nodes.halts.Tie as tie
-use Rattle.search.proofs.nodes.halts.Reads as reads
-use Rattle.search.proofs.nodes.halts.Lts as lts
-use Rattle.search.proofs.nodes.bad_row.Reads as bad-row-reads
-use Rattle.search.proofs.nodes.prior.Reads as prior-reads
-use Rattle.words.proofs.read_row.Reads as read-row-reads
 
 prior-requires : tie.Need-prior-requires
 prior-requires c κs = search needs

@@ -6,8 +6,6 @@ use Rattle.words.proofs.Sizes.{store-small}
 use borrow.Author.Needs.{needs}
 use Rattle.search.proofs.nodes.part_start.Statement.{statement}
 use Rattle.search.proofs.nodes.part_start.Tie as tie
-use Rattle.search.proofs.nodes.part_start.Reads as reads
-use Rattle.search.proofs.nodes.part_start.Lts as lts
 
 sub-result : tie.Need-sub-result
 sub-result c = search needs

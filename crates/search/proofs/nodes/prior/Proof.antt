@@ -4,8 +4,6 @@ use Rattle.search.specs.Walks.{numberBefore}
 use borrow.Author.Needs.{needs}
 use Rattle.search.proofs.nodes.prior.Statement.{statement}
 use Rattle.search.proofs.nodes.prior.Tie as tie
-use Rattle.search.proofs.nodes.prior.Reads as reads
-use Rattle.search.proofs.nodes.prior.Lts as lts
 
 sub-result : tie.Need-sub-result
 sub-result c = search needs

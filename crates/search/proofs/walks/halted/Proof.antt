@@ -2,8 +2,6 @@
 use Rattle.labels.proofs.Branches.{branches}
 use Rattle.search.proofs.walks.halted.Statement.{statement}
 use Rattle.search.proofs.walks.halted.Tie as tie
-use Rattle.search.proofs.walks.halted.Reads as reads
-use Rattle.search.proofs.walks.halted.Lts as lts
 
 returns : tie.Need-returns
 returns c = search branches

@@ -2,8 +2,6 @@
 use Rattle.search.specs.Walks.{sonOf}
 use Rattle.search.proofs.walks.son.Statement.{statement}
 use Rattle.search.proofs.walks.son.Tie as tie
-use Rattle.search.proofs.walks.son.Reads as reads
-use Rattle.search.proofs.walks.son.Lts as lts
 
 returns : tie.Need-returns
 unfolding sonOf
