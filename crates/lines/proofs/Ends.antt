@@ -12,7 +12,7 @@ use native.Mathlib.Numerals.{add-one}
 use native.Mathlib.Omega.{arith}
 use lib.ListN.{length, take, drop, getD, drop-of-length-le}
 use lib.Seq.{drop-cons}
-use Rattle.lines.specs.Commands.{isLabelByte, labelIn, afterLabel}
+use Rattle.lines.specs.Commands.{isLabelByte, labelAtFront, afterLabel}
 use Rattle.lines.specs.Scans.{labelLength, LabelEnds}
 
 -- the scan has come from the start to a place: what is left of the label ends where the whole does
@@ -42,8 +42,8 @@ module _ (line : List ℕ) (start place : ℕ)
       empty = rw (drop-of-length-le line past)
 
 -- the two sides of a test on a first byte, with the text cut where the label ends
-front-by : (test : Bool) (byte : ℕ) (more : List ℕ) → take (labelLength more) more ≡ labelIn more
-    → take (cond test (suc (labelLength more)) 0) (byte ∷ more) ≡ cond test (byte ∷ labelIn more) []
+front-by : (test : Bool) (byte : ℕ) (more : List ℕ) → take (labelLength more) more ≡ labelAtFront more
+    → take (cond test (suc (labelLength more)) 0) (byte ∷ more) ≡ cond test (byte ∷ labelAtFront more) []
 front-by true byte more same = ap {B = List ℕ} (λ l. byte ∷ l) same
 front-by false byte more same = refl
 
@@ -53,7 +53,7 @@ rest-by true byte more same = same
 rest-by false byte more same = refl
 
 -- the label is the front of its length
-pub label-at-front : (text : List ℕ) → take (labelLength text) text ≡ labelIn text
+pub label-at-front : (text : List ℕ) → take (labelLength text) text ≡ labelAtFront text
 label-at-front [] = refl
 label-at-front (byte ∷ more) = front-by (isLabelByte byte) byte more (label-at-front more)
 

@@ -12,7 +12,7 @@ use native.Mathlib.Omega.{arith}
 use borrow.Author.Tests.{ne-eqb}
 use lib.ListN.{length, take, drop, drop-of-length-le}
 use lib.Seq.{drop-cons, drop-drop}
-use Rattle.lines.specs.Commands.{Asked, delete, search, bad, insertOf, labelIn, afterLabel, byLetter}
+use Rattle.lines.specs.Commands.{Asked, delete, search, bad, insertOf, labelAtFront, afterLabel, byLetter}
 use Rattle.lines.specs.Scans.{labelLength, LabelEnds}
 use Rattle.lines.proofs.Ends.{label-at-front, rest-after-label}
 
@@ -24,7 +24,7 @@ module _ (line : List ℕ) (end letter : ℕ) (ends : LabelEnds line 2 end) wher
   text-at : end - 2 ≡ labelLength (drop 2 line)
   text-at = omega (arith, ends .at)
 
-  label-of-line : take (end - 2) (drop 2 line) ≡ labelIn (drop 2 line)
+  label-of-line : take (end - 2) (drop 2 line) ≡ labelAtFront (drop 2 line)
   label-of-line = rw text-at (label-at-front (drop 2 line))
 
   rest-of-line : afterLabel (drop 2 line) ≡ drop end line

@@ -5,4 +5,3 @@ pub mod Letters
 pub mod Asks
 pub mod Buffers
 pub mod Answers
-pub mod Keeps

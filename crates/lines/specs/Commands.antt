@@ -26,9 +26,9 @@ abbrev pub isLabelByte : ℕ → Bool
 isLabelByte byte = leb 33 byte && leb byte 126
 
 -- the bytes at the front of a text that a label may have, and what comes after them
-abbrev pub labelIn : List ℕ → Label
-labelIn [] = []
-labelIn (byte ∷ more) = cond (isLabelByte byte) (byte ∷ labelIn more) []
+abbrev pub labelAtFront : List ℕ → Label
+labelAtFront [] = []
+labelAtFront (byte ∷ more) = cond (isLabelByte byte) (byte ∷ labelAtFront more) []
 
 abbrev pub afterLabel : List ℕ → List ℕ
 afterLabel [] = []
@@ -70,9 +70,9 @@ ended asked (byte ∷ more) = bad
 -- "`I label value`, `D label`, `S label`, one space between": by the letter
 abbrev pub byLetter : ℕ → List ℕ → Asked
 byLetter letter text =
-    cond (eqb letter 73) (insertOf (labelIn text) (afterLabel text))
-    (cond (eqb letter 68) (ended (delete (labelIn text)) (afterLabel text))
-    (cond (eqb letter 83) (ended (search (labelIn text)) (afterLabel text)) bad))
+    cond (eqb letter 73) (insertOf (labelAtFront text) (afterLabel text))
+    (cond (eqb letter 68) (ended (delete (labelAtFront text)) (afterLabel text))
+    (cond (eqb letter 83) (ended (search (labelAtFront text)) (afterLabel text)) bad))
 
 abbrev pub asksWith : List ℕ → Asked
 asksWith [] = bad

@@ -2,4 +2,3 @@ pub mod Commands
 pub mod Texts
 pub mod Scans
 pub mod Puts
-pub mod Kept

@@ -3,7 +3,8 @@ use mathlib.Core.List.{List, [], _∷_, _++_}
 use mathlib.Core.Bool.{true, false}
 use Prim.Native.Nat.{ℕ, zero, suc, _+_, _/_, _%_}
 use lib.Dec.{ltb}
-use Rattle.types.specs.Answers.{Answer, found, absent, updated, listed, done, refused}
+use Rattle.types.specs.Answers.{Answer, found, absent, updated, listed, done, refused, searchSays, updateSays}
+use Rattle.lines.specs.declared.Said as code
 
 -- a number below 10 to the power of the digits given, in decimal
 abbrev pub decimalWith : (digits : ℕ) → ℕ → List ℕ
@@ -54,3 +55,9 @@ textOf done = okWord ++ lineEnd
 
 unfoldable pub badText : List ℕ
 badText = badWord ++ lineEnd
+
+-- the line for what the code says
+abbrev pub textSaid : code.Said → List ℕ
+textSaid (code.the-variants.Update answer) = textOf (updateSays answer)
+textSaid (code.the-variants.Search answer) = textOf (searchSays answer)
+textSaid code.the-variants.Bad = badText

@@ -1,19 +1,24 @@
 // The lines of `hubshell`: what a line asks, and the line that answers it.
 mod commands;
-mod kept;
 mod texts;
 
 pub use commands::command_of;
-pub use kept::keep;
-pub use texts::bad_text;
-pub use texts::search_text;
-pub use texts::update_text;
+pub use texts::put_said;
+use types::SearchAnswer;
+use types::UpdateAnswer;
 
 // What a line asks. A label is the part of the line from byte 2 up to `end`.
 pub enum Command {
     Insert { end: usize, value: u16 },
     Delete { end: usize },
     Search { end: usize },
+    Bad,
+}
+
+// What is said to a line: the answer of the call that it asks, or that it asks nothing.
+pub enum Said {
+    Update(UpdateAnswer),
+    Search(SearchAnswer),
     Bad,
 }
 

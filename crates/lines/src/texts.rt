@@ -1,43 +1,31 @@
-// The line that answers a line, written at the front of a lent buffer. What stands behind it stays free.
+// The line that answers a line, put at a place of a lent buffer. What stands before that place stays.
+use crate::Said;
 use types::Refusal;
 use types::SearchAnswer;
 use types::UpdateAnswer;
-ghost use mathlib.Core.Path.{_≡_};
 ghost use mathlib.Core.List.{_++_};
 ghost use Prim.Native.Nat.{_≤_, _+_};
-ghost use lib.ListN.{length, take};
-ghost use Rattle.types.specs.Answers.{searchSays, updateSays, numberOf, refused};
-ghost use Rattle.lines.specs.Texts.{textOf, badText, thenNumber, thenCounts, decimalWith};
+ghost use lib.ListN.{length};
+ghost use Rattle.types.specs.Answers.{searchSays, updateSays, refusalNumber, refused};
+ghost use Rattle.lines.specs.Texts.{textOf, textSaid, thenNumber, thenCounts, decimalWith};
 ghost use Rattle.lines.specs.Puts.{Puts};
 
-// The line for a search's answer; gives its length.
-pub fn search_text(answer: SearchAnswer, out: &mut [u8; 96]) -> usize
-    ensures { λ r. ⌜ take r (now (out .exit)) ≡ textOf (searchSays answer) ⌝ }
-    ensures { λ r. ⌜ r ≤ length (now (out .exit)) ⌝ }
+// The line for what is said, put at a place; gives the place after it.
+pub fn put_said(said: Said, out: &mut [u8], place: usize) -> usize
+    requires { ⌜ place + 96 ≤ length (now out) ⌝ }
+    ensures { λ r. ⌜ Puts (now (out .entry)) place (textSaid said) 96 (now (out .exit)) r ⌝ }
 {
-    put_search(answer, out)
+    match said {
+        Said::Update(answer) => put_update(answer, out, place),
+        Said::Search(answer) => put_search(answer, out, place),
+        Said::Bad => put(out, place, b"bad\n"),
+    }
 }
 
-// The line for the answer of an insert or a delete; gives its length.
-pub fn update_text(answer: UpdateAnswer, out: &mut [u8; 96]) -> usize
-    ensures { λ r. ⌜ take r (now (out .exit)) ≡ textOf (updateSays answer) ⌝ }
-    ensures { λ r. ⌜ r ≤ length (now (out .exit)) ⌝ }
-{
-    put_update(answer, out)
-}
-
-// The line for a line that asks nothing; gives its length.
-pub fn bad_text(out: &mut [u8; 96]) -> usize
-    ensures { λ r. ⌜ take r (now (out .exit)) ≡ badText ⌝ }
-    ensures { λ r. ⌜ r ≤ length (now (out .exit)) ⌝ }
-{
-    put(out, 0, b"bad\n")
-}
-
-// The line for a search's answer, put at the front; gives the place after it.
-fn put_search(answer: SearchAnswer, out: &mut [u8]) -> usize
-    requires { ⌜ 96 ≤ length (now out) ⌝ }
-    ensures { λ r. ⌜ Puts (now (out .entry)) 0 (textOf (searchSays answer)) 96 (now (out .exit)) r ⌝ }
+// The line for a search's answer, put at a place; gives the place after it.
+fn put_search(answer: SearchAnswer, out: &mut [u8], place: usize) -> usize
+    requires { ⌜ place + 96 ≤ length (now out) ⌝ }
+    ensures { λ r. ⌜ Puts (now (out .entry)) place (textOf (searchSays answer)) 96 (now (out .exit)) r ⌝ }
 {
     match answer {
         SearchAnswer::Found {
@@ -46,21 +34,21 @@ fn put_search(answer: SearchAnswer, out: &mut [u8]) -> usize
             visits,
             places,
         } => {
-            let end = put(out, 0, b"found");
+            let end = put(out, place, b"found");
             put_answer(out, end, value as usize, visits, places)
         }
         SearchAnswer::Absent { visits, places } => {
-            let end = put(out, 0, b"absent");
+            let end = put(out, place, b"absent");
             put_counts(out, end, visits, places)
         }
-        SearchAnswer::Refused(refusal) => put_refusal(refusal, out),
+        SearchAnswer::Refused(refusal) => put_refusal(refusal, out, place),
     }
 }
 
-// The line for the answer of an insert or a delete, put at the front; gives the place after it.
-fn put_update(answer: UpdateAnswer, out: &mut [u8]) -> usize
-    requires { ⌜ 96 ≤ length (now out) ⌝ }
-    ensures { λ r. ⌜ Puts (now (out .entry)) 0 (textOf (updateSays answer)) 96 (now (out .exit)) r ⌝ }
+// The line for the answer of an insert or a delete, put at a place; gives the place after it.
+fn put_update(answer: UpdateAnswer, out: &mut [u8], place: usize) -> usize
+    requires { ⌜ place + 96 ≤ length (now out) ⌝ }
+    ensures { λ r. ⌜ Puts (now (out .entry)) place (textOf (updateSays answer)) 96 (now (out .exit)) r ⌝ }
 {
     match answer {
         UpdateAnswer::Updated {
@@ -68,19 +56,19 @@ fn put_update(answer: UpdateAnswer, out: &mut [u8]) -> usize
             visits,
             places,
         } => {
-            let end = put(out, 0, b"ok");
+            let end = put(out, place, b"ok");
             put_answer(out, end, slot, visits, places)
         }
-        UpdateAnswer::Refused(refusal) => put_refusal(refusal, out),
+        UpdateAnswer::Refused(refusal) => put_refusal(refusal, out, place),
     }
 }
 
-// The line for a refusal, put at the front; gives the place after it.
-fn put_refusal(refusal: Refusal, out: &mut [u8]) -> usize
-    requires { ⌜ 96 ≤ length (now out) ⌝ }
-    ensures { λ r. ⌜ Puts (now (out .entry)) 0 (textOf (refused (numberOf refusal))) 96 (now (out .exit)) r ⌝ }
+// The line for a refusal, put at a place; gives the place after it.
+fn put_refusal(refusal: Refusal, out: &mut [u8], place: usize) -> usize
+    requires { ⌜ place + 96 ≤ length (now out) ⌝ }
+    ensures { λ r. ⌜ Puts (now (out .entry)) place (textOf (refused (refusalNumber refusal))) 96 (now (out .exit)) r ⌝ }
 {
-    let first = put(out, 0, b"no");
+    let first = put(out, place, b"no");
     let second = put_number(out, first, types::number_of(refusal));
     put(out, second, b"\n")
 }

@@ -1,0 +1,4 @@
+pub mod Fresh
+pub mod Ahead
+pub mod Keeps
+pub mod ReadsPrint

@@ -1,0 +1,1 @@
+// What `hubshell` prints for an input: definitions and their laws, no code.
