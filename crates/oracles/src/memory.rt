@@ -69,11 +69,11 @@ fn byte_number(byte: u8) -> usize {
 }
 
 // The number at a place of a slot's label.
-pub fn number(table: &Table, store: &Store, slot: usize, place: usize) -> usize {
-    if place > field(table, slot, LENGTH) {
+pub fn number_at(table: &Table, store: &Store, slot: usize, place: usize) -> usize {
+    if place == 0 {
         return 0;
     }
-    if place == 0 {
+    if place > field(table, slot, LENGTH) {
         return 0;
     }
     byte_number(byte(store, slot, place - 1))

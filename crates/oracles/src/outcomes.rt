@@ -1,33 +1,45 @@
-// What each call says on memory of the right lengths and any content.
+// What each call says on memory of any lengths and content. The table and store are the content of memory that has the
+// right lengths; of other memory nothing is read.
 use crate::Answer;
+use crate::lengths;
+use crate::lengths::Lent;
+use crate::listings;
+use crate::listings::List;
 use crate::memory;
 use crate::memory::Store;
 use crate::memory::Table;
 use crate::refused;
 use crate::sound;
 use crate::steps;
-use plainmap::length_refusal;
 use std::num::wrapping_add_usize;
 
-pub fn search(table: &Table, store: &Store, label: &[u8]) -> Answer {
-    let why = length_refusal(label.len());
+pub fn search(lent: Lent, table: &Table, store: &Store, label: &[u8]) -> Answer {
+    let why = lengths_refusal(lent, label.len());
     if why > 0 {
         return refused(why);
     }
     steps::search(table, store, label)
 }
 
-// The number that refuses an update before its search, or 0.
-fn update_refusal(table: &Table, store: &Store, label: &[u8]) -> usize {
-    let why = length_refusal(label.len());
+fn lengths_refusal(lent: Lent, len: usize) -> usize {
+    let why = lengths::lent_refusal(lent);
     if why > 0 {
         return why;
     }
-    check(table, store)
+    lengths::label_refusal(len)
 }
 
-pub fn insert(table: &Table, store: &Store, label: &[u8]) -> Answer {
-    let why = update_refusal(table, store, label);
+// The number that refuses an update before its search, or 0.
+fn update_refusal(lent: Lent, table: &Table, store: &Store, len: usize) -> usize {
+    let why = lengths_refusal(lent, len);
+    if why > 0 {
+        return why;
+    }
+    check(lent, table, store)
+}
+
+pub fn insert(lent: Lent, table: &Table, store: &Store, label: &[u8]) -> Answer {
+    let why = update_refusal(lent, table, store, label.len());
     if why > 0 {
         return refused(why);
     }
@@ -41,8 +53,8 @@ pub fn insert(table: &Table, store: &Store, label: &[u8]) -> Answer {
     updated(new_slot(table), met)
 }
 
-pub fn delete(table: &Table, store: &Store, label: &[u8]) -> Answer {
-    let why = update_refusal(table, store, label);
+pub fn delete(lent: Lent, table: &Table, store: &Store, label: &[u8]) -> Answer {
+    let why = update_refusal(lent, table, store, label.len());
     if why > 0 {
         return refused(why);
     }
@@ -62,28 +74,59 @@ fn new_slot(table: &Table) -> usize {
 }
 
 fn updated(slot: usize, met: Answer) -> Answer {
-    Answer {
-        number: 0,
-        slot: slot,
-        value: 0,
-        visits: met.visits,
-        places: met.places,
-    }
+    let mut answer = met;
+    answer.slot = slot;
+    answer.value = 0;
+    answer
+}
+
+// The number of the layout.
+pub fn layout(lent: Lent) -> usize {
+    lengths::lent_refusal(lent)
 }
 
 // The number of the soundness check.
-pub fn check(table: &Table, store: &Store) -> usize {
+pub fn check(lent: Lent, table: &Table, store: &Store) -> usize {
+    let why = lengths::lent_refusal(lent);
+    if why > 0 {
+        return why;
+    }
     if sound::is_sound(table, store) {
         return 0;
     }
     6
 }
 
+// The number of a listing into a list with `room` words, which gets the slots where it is 0.
+pub fn listing(lent: Lent, table: &Table, store: &Store, list: &mut List, room: usize) -> usize {
+    let why = check(lent, table, store);
+    if why > 0 {
+        return why;
+    }
+    let held = memory::word(table, memory::HELD);
+    if held > room {
+        return 10;
+    }
+    listings::write(table, list, held);
+    0
+}
+
 // The number of the view's first call.
-pub fn view(table: &Table, slot: usize) -> usize {
-    let len = memory::field(table, slot, memory::LENGTH);
-    if len == 0 || len > 64 {
+pub fn view(lent: Lent, table: &Table, slot: usize) -> usize {
+    let why = lengths::lent_refusal(lent);
+    if why > 0 {
+        return why;
+    }
+    if lengths::label_refusal(memory::field(table, slot, memory::LENGTH)) > 0 {
         return 11;
     }
     0
+}
+
+// How many bytes the view's part has.
+pub fn view_length(lent: Lent, table: &Table, slot: usize) -> usize {
+    if view(lent, table, slot) > 0 {
+        return 0;
+    }
+    memory::field(table, slot, memory::LENGTH)
 }

@@ -1,5 +1,6 @@
 // Soundness: the tree is read level by level, each node tested against its two neighbours above it, heights are counted
 // from the last node back to the root, and what is left must be the free chain and slots that are all zero.
+use crate::lengths::label_refusal;
 use crate::memory;
 use crate::memory::Store;
 use crate::memory::Table;
@@ -12,7 +13,7 @@ const QUEUE: usize = 0;
 
 const BEFORE: usize = 1;
 
-const AFTER: usize = 2;
+pub const AFTER: usize = 2;
 
 const MET: usize = 3;
 
@@ -30,14 +31,20 @@ pub fn is_sound(table: &Table, store: &Store) -> bool {
     if count > 512 {
         return false;
     }
-    nodes_hold(table, store, &work, count)
-        && heights_hold(table, &mut work, count)
-        && chain_holds(table, store, &mut work, count)
-        && rest_is_zero(table, store)
+    if !nodes_hold(table, store, &work, count) {
+        return false;
+    }
+    if !heights_hold(table, &mut work, count) {
+        return false;
+    }
+    if !chain_holds(table, store, &mut work, count) {
+        return false;
+    }
+    rest_is_zero(table, store)
 }
 
 // Reads the tree into the lists, and gives the number of its nodes; 513 where its links give none.
-fn read_tree(table: &Table, work: &mut Lists) -> usize {
+pub fn read_tree(table: &Table, work: &mut Lists) -> usize {
     let mut count = join(table, work, 0, memory::word(table, memory::ROOT), 0, 0);
     for i in 0..512 {
         if i < count {
@@ -110,20 +117,13 @@ fn nodes_hold(table: &Table, store: &Store, work: &Lists, count: usize) -> bool 
 }
 
 fn node_holds(table: &Table, store: &Store, slot: usize, before: usize, after: usize) -> bool {
-    let len = memory::field(table, slot, memory::LENGTH);
-    if len == 0 || len > 64 {
+    if !label_holds(table, store, slot) {
         return false;
     }
-    if memory::field(table, slot, memory::SPARE) > 0 {
+    if !is_below(table, store, before, slot) {
         return false;
     }
-    if !bytes_are_zero(store, slot, len) {
-        return false;
-    }
-    if before > 0 && !is_below(table, store, before, slot) {
-        return false;
-    }
-    if after > 0 && !is_below(table, store, slot, after) {
+    if !is_below(table, store, slot, after) {
         return false;
     }
     prefix_holds(
@@ -132,6 +132,18 @@ fn node_holds(table: &Table, store: &Store, slot: usize, before: usize, after: u
         difference(table, store, before, slot),
         difference(table, store, slot, after),
     )
+}
+
+// Whether a slot's length is a label's, its last word 0, and its bytes past the label 0.
+fn label_holds(table: &Table, store: &Store, slot: usize) -> bool {
+    let len = memory::field(table, slot, memory::LENGTH);
+    if label_refusal(len) > 0 {
+        return false;
+    }
+    if memory::field(table, slot, memory::SPARE) > 0 {
+        return false;
+    }
+    bytes_are_zero(store, slot, len)
 }
 
 // Whether a slot's place and side are those that its difference places with both neighbours give.
@@ -145,26 +157,40 @@ fn prefix_holds(table: &Table, slot: usize, before: usize, after: usize) -> bool
     if place == 0 {
         place = 1;
     }
-    memory::field(table, slot, memory::PLACE) == place
-        && memory::field(table, slot, memory::SIDE) == side
+    if memory::field(table, slot, memory::PLACE) != place {
+        return false;
+    }
+    memory::field(table, slot, memory::SIDE) == side
 }
 
 // The first place where two slots' labels hold different numbers; 0 where there is none or a slot is missing.
 fn difference(table: &Table, store: &Store, one: usize, other: usize) -> usize {
-    if one == 0 || other == 0 {
+    if one == 0 {
+        return 0;
+    }
+    if other == 0 {
         return 0;
     }
     for place in 1..66 {
-        if memory::number(table, store, one, place) != memory::number(table, store, other, place) {
+        if memory::number_at(table, store, one, place)
+            != memory::number_at(table, store, other, place)
+        {
             return place;
         }
     }
     0
 }
 
-pub fn is_below(table: &Table, store: &Store, one: usize, other: usize) -> bool {
+// Whether a slot's label is below another's; a missing neighbour, slot 0, is below and above all.
+fn is_below(table: &Table, store: &Store, one: usize, other: usize) -> bool {
+    if one == 0 {
+        return true;
+    }
+    if other == 0 {
+        return true;
+    }
     let place = difference(table, store, one, other);
-    memory::number(table, store, one, place) < memory::number(table, store, other, place)
+    memory::number_at(table, store, one, place) < memory::number_at(table, store, other, place)
 }
 
 // Counts the heights from the last node met to the root, each balance tested on the way.
@@ -189,7 +215,10 @@ fn height_holds(table: &Table, work: &mut Lists, slot: usize) -> bool {
         height = right;
     }
     lists::put(work, HEIGHT, slot, wrapping_add_usize(height, 1));
-    balance < 3 && wrapping_add_usize(left, balance) == wrapping_add_usize(right, 1)
+    if balance > 2 {
+        return false;
+    }
+    wrapping_add_usize(left, balance) == wrapping_add_usize(right, 1)
 }
 
 // Whether the free chain holds the slots up to the high mark that no node has, each once, and then ends.
@@ -197,10 +226,10 @@ fn chain_holds(table: &Table, store: &Store, work: &mut Lists, count: usize) -> 
     let mut link = memory::word(table, memory::FREE);
     let mark = memory::word(table, memory::MARK);
     for i in count..mark {
-        if link > mark || lists::get(work, MET, link) > 0 {
+        if link > mark {
             return false;
         }
-        if !slot_is_zero(table, store, link, memory::RIGHT) {
+        if !is_freed(table, store, work, link) {
             return false;
         }
         lists::put(work, MET, link, 1);
@@ -209,6 +238,15 @@ fn chain_holds(table: &Table, store: &Store, work: &mut Lists, count: usize) -> 
     link == 0
 }
 
+// Whether a slot was not met yet and is all zero but for its link.
+fn is_freed(table: &Table, store: &Store, work: &Lists, slot: usize) -> bool {
+    if lists::get(work, MET, slot) > 0 {
+        return false;
+    }
+    slot_is_zero(table, store, slot, memory::RIGHT)
+}
+
+// Whether the slots above the high mark are all zero.
 fn rest_is_zero(table: &Table, store: &Store) -> bool {
     let mark = memory::word(table, memory::MARK);
     for slot in mark..512 {

@@ -1,5 +1,6 @@
 // The search steps.
 use crate::Answer;
+use crate::lengths::label_refusal;
 use crate::memory;
 use crate::memory::Store;
 use crate::memory::Table;
@@ -28,25 +29,18 @@ pub fn search(table: &Table, store: &Store, label: &[u8]) -> Answer {
         places: 0,
     };
     for turn in 0..12usize {
-        if at.found {
-            return ended(table, at);
+        if !at.found {
+            at = met(table, store, label, at);
         }
-        if at.link == 0 {
-            return ended(table, at);
-        }
-        if broken(table, at.link) {
-            return refused(5);
-        }
-        at = visit(table, store, label, at);
     }
     ended(table, at)
 }
 
-// What a search says at its end; a thirteenth node is one too many.
+// What a search says at its end; a link that is left over is that of a broken node or of a thirteenth.
 fn ended(table: &Table, at: State) -> Answer {
     if at.found {
         return Answer {
-            number: 0,
+            refusal: 0,
             slot: at.link,
             value: memory::field(table, at.link, memory::VALUE),
             visits: at.visits,
@@ -57,7 +51,7 @@ fn ended(table: &Table, at: State) -> Answer {
         return refused(5);
     }
     Answer {
-        number: 0,
+        refusal: 0,
         slot: 0,
         value: 0,
         visits: at.visits,
@@ -65,19 +59,37 @@ fn ended(table: &Table, at: State) -> Answer {
     }
 }
 
+// Whether a node that a search is to visit has a slot, length, place or side that no node has.
 fn broken(table: &Table, slot: usize) -> bool {
-    let len = memory::field(table, slot, memory::LENGTH);
-    let place = memory::field(table, slot, memory::PLACE);
     if slot > 512 {
         return true;
     }
-    if len == 0 || len > 64 {
+    let len = memory::field(table, slot, memory::LENGTH);
+    if label_refusal(len) > 0 {
         return true;
     }
-    if place == 0 || place > wrapping_add_usize(len, 1) {
+    if memory::field(table, slot, memory::SIDE) > 1 {
         return true;
     }
-    memory::field(table, slot, memory::SIDE) > 1
+    wrong_place(memory::field(table, slot, memory::PLACE), len)
+}
+
+fn wrong_place(place: usize, len: usize) -> bool {
+    if place == 0 {
+        return true;
+    }
+    place > wrapping_add_usize(len, 1)
+}
+
+// The search after the next link's node; at an empty link, or at a broken node, it stays.
+fn met(table: &Table, store: &Store, label: &[u8], at: State) -> State {
+    if at.link == 0 {
+        return at;
+    }
+    if broken(table, at.link) {
+        return at;
+    }
+    visit(table, store, label, at)
 }
 
 fn go(table: &Table, at: State, son: usize) -> State {
@@ -111,12 +123,9 @@ fn visit(table: &Table, store: &Store, label: &[u8], at: State) -> State {
 fn compare(table: &Table, store: &Store, label: &[u8], at: State, from: usize) -> State {
     let end = compared_to(table, store, at.link, label, from);
     let mut next = at;
-    next.places = wrapping_add_usize(
-        at.places,
-        wrapping_sub_usize(wrapping_add_usize(end, 1), from),
-    );
+    next.places = examined(at.places, from, end);
     let sought = label_number(label, end);
-    let other = memory::number(table, store, at.link, end);
+    let other = memory::number_at(table, store, at.link, end);
     if sought < other {
         next.s = end;
         return go(table, next, memory::LEFT);
@@ -130,6 +139,11 @@ fn compare(table: &Table, store: &Store, label: &[u8], at: State, from: usize) -
     next
 }
 
+// The places examined, with those of a comparison from one place to another.
+fn examined(places: usize, from: usize, end: usize) -> usize {
+    wrapping_add_usize(places, wrapping_sub_usize(wrapping_add_usize(end, 1), from))
+}
+
 // The last place that a comparison from a place on examines: the first difference, or the shared end.
 fn compared_to(table: &Table, store: &Store, slot: usize, label: &[u8], from: usize) -> usize {
     for place in from..65 {
@@ -137,7 +151,7 @@ fn compared_to(table: &Table, store: &Store, slot: usize, label: &[u8], from: us
         if sought == 0 {
             return place;
         }
-        if sought != memory::number(table, store, slot, place) {
+        if sought != memory::number_at(table, store, slot, place) {
             return place;
         }
     }

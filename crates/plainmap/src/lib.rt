@@ -30,14 +30,14 @@ const HIGH: usize = 2;
 
 // What the map says: a refusal's number, or 0 with the label's slot and value; a label that is not held has slot 0.
 pub struct Said {
-    pub number: usize,
+    pub refusal: usize,
     pub slot: usize,
     pub value: usize,
 }
 
-fn refused(number: usize) -> Said {
+fn no_slot(refusal: usize) -> Said {
     Said {
-        number: number,
+        refusal: refusal,
         slot: 0,
         value: 0,
     }
@@ -45,7 +45,7 @@ fn refused(number: usize) -> Said {
 
 fn at_slot(map: &Lists, slot: usize) -> Said {
     Said {
-        number: 0,
+        refusal: 0,
         slot: slot,
         value: value_of(map, slot),
     }
@@ -59,9 +59,8 @@ struct Spot {
 
 // Empties the map; slots count from 1 again.
 pub fn clear(map: &mut Lists) {
-    lists::put(map, COUNTS, HELD, 0);
-    lists::put(map, COUNTS, FREE, 0);
-    lists::put(map, COUNTS, HIGH, 0);
+    let empty = [0u16; 35397];
+    *map = empty;
 }
 
 pub fn held(map: &Lists) -> usize {
@@ -110,11 +109,16 @@ fn spot_of(map: &Lists, label: &[u8]) -> Spot {
     for i in 0..n {
         let slot = slot_at(map, i);
         let place = labels::difference(map, slot, label);
-        let above = labels::number(map, slot, place) > labels::label_number(label, place);
-        if place == 0 || above {
+        if place == 0 {
             return Spot {
                 rank: i,
-                held: place == 0,
+                held: true,
+            };
+        }
+        if labels::slot_number(map, slot, place) > labels::label_number(label, place) {
+            return Spot {
+                rank: i,
+                held: false,
             };
         }
     }
@@ -127,55 +131,70 @@ fn spot_of(map: &Lists, label: &[u8]) -> Spot {
 pub fn search(map: &Lists, label: &[u8]) -> Said {
     let why = length_refusal(label.len());
     if why > 0 {
-        return refused(why);
+        return no_slot(why);
     }
     let spot = spot_of(map, label);
     if !spot.held {
-        return refused(0);
+        return no_slot(0);
     }
     at_slot(map, slot_at(map, spot.rank))
 }
 
-pub fn insert(map: &mut Lists, label: &[u8], value: u16) -> Said {
-    let why = length_refusal(label.len());
+// The number that refuses the insert of a label of a length, held already or not; or 0.
+fn insert_refusal(map: &Lists, len: usize, known: bool) -> usize {
+    let why = length_refusal(len);
     if why > 0 {
-        return refused(why);
+        return why;
     }
-    let spot = spot_of(map, label);
-    if spot.held {
-        return refused(7);
+    if known {
+        return 7;
     }
     if held(map) > 511 {
-        return refused(9);
+        return 9;
+    }
+    0
+}
+
+pub fn insert(map: &mut Lists, label: &[u8], value: u16) -> Said {
+    let spot = spot_of(map, label);
+    let why = insert_refusal(map, label.len(), spot.held);
+    if why > 0 {
+        return no_slot(why);
     }
     let slot = take_slot(map);
-    open_rank(map, spot.rank);
-    lists::put(map, ORDER, spot.rank, slot);
-    lists::put(map, VALUES, slot, value as usize);
-    labels::write(map, slot, label);
+    labels::write(map, slot, label, value);
+    open_rank(map, spot.rank, slot);
     at_slot(map, slot)
+}
+
+fn delete_refusal(len: usize, known: bool) -> usize {
+    let why = length_refusal(len);
+    if why > 0 {
+        return why;
+    }
+    if known {
+        return 0;
+    }
+    8
 }
 
 pub fn delete(map: &mut Lists, label: &[u8]) -> Said {
-    let why = length_refusal(label.len());
-    if why > 0 {
-        return refused(why);
-    }
     let spot = spot_of(map, label);
-    if !spot.held {
-        return refused(8);
+    let why = delete_refusal(label.len(), spot.held);
+    if why > 0 {
+        return no_slot(why);
     }
     let slot = slot_at(map, spot.rank);
     close_rank(map, spot.rank);
-    lists::put(map, FREED, lists::get(map, COUNTS, FREE), slot);
-    raise(map, FREE);
+    free_slot(map, slot);
     at_slot(map, slot)
 }
 
-// Adds 1 to a count.
-fn raise(map: &mut Lists, count: usize) {
+// Adds 1 to a count, and gives what it was.
+fn raise(map: &mut Lists, count: usize) -> usize {
     let n = lists::get(map, COUNTS, count);
     lists::put(map, COUNTS, count, wrapping_add_usize(n, 1));
+    n
 }
 
 // Takes 1 from a count that is not 0.
@@ -184,6 +203,11 @@ fn lower(map: &mut Lists, count: usize) {
     if n > 0 {
         lists::put(map, COUNTS, count, n - 1);
     }
+}
+
+fn free_slot(map: &mut Lists, slot: usize) {
+    let n = raise(map, FREE);
+    lists::put(map, FREED, n, slot);
 }
 
 // The slot freed last, or else the one above the high mark, which rises.
@@ -197,22 +221,25 @@ fn take_slot(map: &mut Lists) -> usize {
     high(map)
 }
 
-// Moves the slots from `rank` on up by one.
-fn open_rank(map: &mut Lists, rank: usize) {
-    let mut i = held(map);
-    raise(map, HELD);
+// Moves the slots from `rank` on up by one, and puts a slot there.
+fn open_rank(map: &mut Lists, rank: usize, slot: usize) {
+    let mut i = raise(map, HELD);
     while i > rank {
-        let slot = slot_at(map, i - 1);
-        lists::put(map, ORDER, i, slot);
+        move_rank(map, i - 1, i);
         i -= 1;
     }
+    lists::put(map, ORDER, rank, slot);
 }
 
 // Moves the slots above `rank` down by one.
 fn close_rank(map: &mut Lists, rank: usize) {
     lower(map, HELD);
     for i in rank..held(map) {
-        let slot = slot_at(map, i + 1);
-        lists::put(map, ORDER, i, slot);
+        move_rank(map, i + 1, i);
     }
+}
+
+fn move_rank(map: &mut Lists, from: usize, to: usize) {
+    let slot = slot_at(map, from);
+    lists::put(map, ORDER, to, slot);
 }

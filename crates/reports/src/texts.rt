@@ -1,5 +1,8 @@
 // Lines of text, put together in a buffer.
+use crate::tallies;
+use crate::tallies::Tally;
 use libc::STDOUT_FILENO;
+use std::num::wrapping_add_usize;
 
 pub type Line = [u8; 400];
 
@@ -11,13 +14,48 @@ fn put_byte(line: &mut Line, at: usize, byte: u8) -> usize {
     at
 }
 
-// Puts words; gives the place after them.
-pub fn put(line: &mut Line, start: usize, text: &[u8]) -> usize {
+// Puts one of several names, which a bar parts, by its number; gives the place after it.
+pub fn put_name(line: &mut Line, start: usize, names: &[u8], number: usize) -> usize {
     let mut at = start;
-    for i in 0..text.len() {
-        at = put_byte(line, at, text[i]);
+    let mut bars = 0usize;
+    for i in 0..names.len() {
+        if names[i] == b'|' {
+            bars = wrapping_add_usize(bars, 1);
+        } else {
+            at = put_if(line, at, names[i], bars == number);
+        }
     }
     at
+}
+
+fn put_if(line: &mut Line, at: usize, byte: u8, wanted: bool) -> usize {
+    if wanted {
+        return put_byte(line, at, byte);
+    }
+    at
+}
+
+// Puts a text in which each digit stands for the count of that number.
+pub fn put_counts(line: &mut Line, start: usize, text: &[u8], tally: Tally) -> usize {
+    let mut at = start;
+    for i in 0..text.len() {
+        at = put_counted(line, at, text[i], tally);
+    }
+    at
+}
+
+fn put_counted(line: &mut Line, at: usize, byte: u8, tally: Tally) -> usize {
+    if byte < 48 {
+        return put_byte(line, at, byte);
+    }
+    if byte > 57 {
+        return put_byte(line, at, byte);
+    }
+    put_number(line, at, tallies::get(tally, wide(byte - 48)))
+}
+
+fn wide(x: u8) -> usize {
+    x as usize
 }
 
 fn digit(x: usize) -> u8 {
@@ -29,12 +67,18 @@ pub fn put_number(line: &mut Line, start: usize, x: usize) -> usize {
     let mut at = start;
     let mut power = 1000000usize;
     while power > 0 {
-        if x >= power || power == 1 {
-            at = put_byte(line, at, digit(x / power));
-        }
+        at = put_if(line, at, digit(x / power), begun(x, power));
         power = power / 10;
     }
     at
+}
+
+// Whether a number's digits have begun at a power of ten.
+fn begun(x: usize, power: usize) -> bool {
+    if power == 1 {
+        return true;
+    }
+    x >= power
 }
 
 fn hex_digit(x: u8) -> u8 {
@@ -55,12 +99,6 @@ pub fn put_hex(line: &mut Line, start: usize, bytes: &[u8]) -> usize {
         at = put_byte(line, at, hex_digit(bytes[i] % 16));
     }
     at
-}
-
-// Puts ", words number".
-pub fn put_count(line: &mut Line, start: usize, text: &[u8], x: usize) -> usize {
-    let at = put(line, start, text);
-    put_number(line, at, x)
 }
 
 // Ends the line and prints it.

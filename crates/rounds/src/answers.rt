@@ -20,14 +20,14 @@ pub fn of_search(said: SearchAnswer) -> Answer {
             visits,
             places,
         } => Answer {
-            number: 0,
+            refusal: 0,
             slot: slot,
             value: wide(value),
             visits: visits,
             places: places,
         },
         SearchAnswer::Absent { visits, places } => Answer {
-            number: 0,
+            refusal: 0,
             slot: 0,
             value: 0,
             visits: visits,
@@ -44,7 +44,7 @@ pub fn of_update(said: UpdateAnswer) -> Answer {
             visits,
             places,
         } => Answer {
-            number: 0,
+            refusal: 0,
             slot: slot,
             value: 0,
             visits: visits,
@@ -63,19 +63,19 @@ pub fn of_done(said: DoneAnswer) -> usize {
 }
 
 // What a listing says: a refusal's number, or 0 and how many slots it wrote.
-pub struct Listing {
-    pub number: usize,
+pub struct Listed {
+    pub refusal: usize,
     pub count: usize,
 }
 
-pub fn of_listing(said: ListAnswer) -> Listing {
+pub fn of_listing(said: ListAnswer) -> Listed {
     match said {
-        ListAnswer::Listed(count) => Listing {
-            number: 0,
+        ListAnswer::Listed(count) => Listed {
+            refusal: 0,
             count: count,
         },
-        ListAnswer::Refused(refusal) => Listing {
-            number: types::number_of(refusal),
+        ListAnswer::Refused(refusal) => Listed {
+            refusal: types::number_of(refusal),
             count: 0,
         },
     }
@@ -84,29 +84,44 @@ pub fn of_listing(said: ListAnswer) -> Listing {
 // What the index said of a label of `len` bytes, beside what the map said, the search steps, and both bounds. A call
 // refused by the map made a search too.
 pub fn compare(said: Answer, plain: Said, steps: Answer, held: usize, len: usize) -> usize {
-    if said.number != plain.number || said.slot != plain.slot {
+    if said.refusal != plain.refusal {
         return faults::ANSWER;
     }
-    if said.number == 3 || said.number == 4 {
+    if said.slot != plain.slot {
+        return faults::ANSWER;
+    }
+    if plainmap::length_refusal(len) > 0 {
         return 0;
     }
     if !oracles::bounds::within(held, len, steps.visits, steps.places) {
         return faults::BOUNDS;
     }
-    if said.number > 0 {
+    if said.refusal > 0 {
         return 0;
     }
-    if said.visits != steps.visits || said.places != steps.places {
-        return faults::COUNTS;
+    if same_counts(said, steps) {
+        return 0;
     }
-    0
+    faults::COUNTS
+}
+
+fn same_counts(one: Answer, other: Answer) -> bool {
+    if one.visits != other.visits {
+        return false;
+    }
+    one.places == other.places
 }
 
 // Whether two answers are the same.
 pub fn same(one: Answer, other: Answer) -> bool {
-    one.number == other.number
-        && one.slot == other.slot
-        && one.value == other.value
-        && one.visits == other.visits
-        && one.places == other.places
+    if one.refusal != other.refusal {
+        return false;
+    }
+    if one.slot != other.slot {
+        return false;
+    }
+    if one.value != other.value {
+        return false;
+    }
+    same_counts(one, other)
 }

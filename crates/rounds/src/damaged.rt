@@ -1,202 +1,116 @@
-// Calls on memory of any content, each compared with the paper's outcome for it.
+// Calls on memory of the hub's lengths and any content, each compared with the paper's outcome for it.
 use crate::answers;
-use crate::states;
+use crate::reads;
+use crate::writes;
+use crate::writes::Tried;
+use oracles::Answer;
+use oracles::lengths::Lent;
 use oracles::memory;
 use oracles::memory::Store;
 use oracles::memory::Table;
 use oracles::outcomes;
-use reports::Made;
-use reports::and_call;
+use oracles::refused;
+use reports::calls::DELETE;
+use reports::calls::INSERT;
 use reports::faults;
-use reports::none_made;
-use reports::tallies::CHECK;
-use reports::tallies::DELETE;
-use reports::tallies::INSERT;
-use reports::tallies::LISTING;
-use reports::tallies::SEARCH;
-use reports::tallies::VIEW;
-use reports::tallies::VIEW_CHECK;
 use std::num::wrapping_add_usize;
 
-// Every call on a label and a slot, one after the other up to the first fault. The memory stays, or is put back.
-pub fn every(table: &mut Table, store: &mut Store, label: &[u8], slot: usize, value: u16) -> Made {
-    let read = reads(table, store, label, slot);
-    if read.fault > 0 {
-        return read;
-    }
-    let inserted = and_call(read, INSERT, insert(table, store, label, value));
-    if inserted.fault > 0 {
-        return inserted;
-    }
-    and_call(inserted, DELETE, delete(table, store, label))
-}
+// The value that is inserted.
+const VALUE: u16 = 99;
 
-// The calls that leave the memory.
-fn reads(table: &Table, store: &Store, label: &[u8], slot: usize) -> Made {
-    let searched = and_call(none_made(), SEARCH, search(table, store, label));
-    if searched.fault > 0 {
-        return searched;
+// Makes a call on a label or a slot; gives its fault. The memory stays: an update is made on a copy.
+pub fn call(table: &Table, store: &Store, label: &[u8], slot: usize, call: usize) -> usize {
+    if call < INSERT {
+        return reads::read(table, store, reads::hubs(), table, store, label, slot, call);
     }
-    let checked = and_call(searched, CHECK, check(table, store));
-    if checked.fault > 0 {
-        return checked;
+    let mut table_left = *table;
+    let mut store_left = *store;
+    let tried = writes::try_on(&mut table_left, &mut store_left, call, label, VALUE);
+    let fault = answer_fault(tried, judged(reads::hubs(), table, store, label, call));
+    if fault > 0 {
+        return fault;
     }
-    let listed = and_call(checked, LISTING, listing(table, store));
-    if listed.fault > 0 {
-        return listed;
-    }
-    let asked = and_call(listed, VIEW_CHECK, view_check(table, store, slot));
-    if asked.fault > 0 {
-        return asked;
-    }
-    and_call(asked, VIEW, view(table, store, slot))
-}
-
-fn search(table: &Table, store: &Store, label: &[u8]) -> usize {
-    let said = answers::of_search(index::search(table, store, label));
-    if answers::same(said, outcomes::search(table, store, label)) {
-        return 0;
-    }
-    faults::ANSWER
-}
-
-fn check(table: &Table, store: &Store) -> usize {
-    if answers::of_done(index::check(table, store)) == outcomes::check(table, store) {
-        return 0;
-    }
-    faults::CHECK
-}
-
-fn listing(table: &Table, store: &Store) -> usize {
-    if listing_holds(table, store, outcomes::check(table, store)) {
-        return 0;
-    }
-    faults::LISTING
-}
-
-fn view_check(table: &Table, store: &Store, slot: usize) -> usize {
-    if answers::of_done(index::view_check(table, store, slot)) == outcomes::view(table, slot) {
-        return 0;
-    }
-    faults::ANSWER
-}
-
-fn view(table: &Table, store: &Store, slot: usize) -> usize {
-    if view_holds(table, store, slot) {
-        return 0;
-    }
-    faults::VIEW
-}
-
-// A listing that is refused with the list as it was; or every label held, in ascending order.
-fn listing_holds(table: &Table, store: &Store, number: usize) -> bool {
-    let mut list = [65535u16; 513];
-    let said = answers::of_listing(index::listing(table, store, &mut list));
-    if said.number != number {
-        return false;
-    }
-    if number == 0 && said.count != held(table) {
-        return false;
-    }
-    ascends(table, store, &list, said.count)
-}
-
-fn wide(x: u16) -> usize {
-    x as usize
-}
-
-// Whether the first words of a list are slots in ascending order of their labels, and the later ones as they were.
-fn ascends(table: &Table, store: &Store, list: &[u16; 513], count: usize) -> bool {
-    let mut before = 0usize;
-    for i in 0..513usize {
-        let slot = wide(list[i]);
-        if i >= count {
-            if slot != 65535 {
-                return false;
-            }
-        } else {
-            if i > 0 && !oracles::sound::is_below(table, store, before, slot) {
-                return false;
-            }
-        }
-        before = slot;
-    }
-    true
-}
-
-// The view's part: the label's bytes, or none.
-fn view_holds(table: &Table, store: &Store, slot: usize) -> bool {
-    let label = index::view(table, store, slot);
-    if outcomes::view(table, slot) > 0 {
-        return label.len() == 0;
-    }
-    label.len() == memory::field(table, slot, memory::LENGTH) && spells(store, slot, label)
-}
-
-fn spells(store: &Store, slot: usize, label: &[u8]) -> bool {
-    for j in 0..label.len() {
-        if label[j] != memory::byte(store, slot, j) {
-            return false;
-        }
-    }
-    true
+    left_fault(tried, &table_left, &store_left, held(table), label, call)
 }
 
 fn held(table: &Table) -> usize {
     memory::word(table, memory::HELD)
 }
 
-// An insert; the memory found is put back.
-fn insert(table: &mut Table, store: &mut Store, label: &[u8], value: u16) -> usize {
-    let table_found = *table;
-    let store_found = *store;
-    let said = answers::of_update(index::insert(table, store, label, value));
-    let after = outcomes::search(table, store, label);
-    let more = held(table) == wrapping_add_usize(held(&table_found), 1);
-    let done = more && after.slot == said.slot && after.value == wide(value);
-    let fault = left(table, store, &table_found, &store_found, said.number, done);
-    *table = table_found;
-    *store = store_found;
-    if !answers::same(said, outcomes::insert(table, store, label)) {
-        return faults::ANSWER;
+// What the judge says of an update.
+pub fn judged(lent: Lent, table: &Table, store: &Store, label: &[u8], call: usize) -> Answer {
+    match call {
+        INSERT => outcomes::insert(lent, table, store, label),
+        DELETE => outcomes::delete(lent, table, store, label),
+        _ => refused(outcomes::layout(lent)),
     }
-    fault
 }
 
-// A delete; the memory found is put back.
-fn delete(table: &mut Table, store: &mut Store, label: &[u8]) -> usize {
-    let table_found = *table;
-    let store_found = *store;
-    let said = answers::of_update(index::delete(table, store, label));
-    let after = outcomes::search(table, store, label);
-    let less = wrapping_add_usize(held(table), 1) == held(&table_found);
-    let done = less && after.slot == 0;
-    let fault = left(table, store, &table_found, &store_found, said.number, done);
-    *table = table_found;
-    *store = store_found;
-    if !answers::same(said, outcomes::delete(table, store, label)) {
+// The fault of an update's answer, or that it was refused and changed the memory, or was made and did not.
+pub fn answer_fault(tried: Tried, judged: Answer) -> usize {
+    let said = tried.said;
+    if !answers::same(said, judged) {
         return faults::ANSWER;
     }
-    fault
-}
-
-// What an update left: the memory it found where it was refused, else a sound table on which it is done.
-fn left(
-    table: &Table,
-    store: &Store,
-    table_found: &Table,
-    store_found: &Store,
-    number: usize,
-    done: bool,
-) -> usize {
-    if states::same(table, store, table_found, store_found) != (number > 0) {
+    if tried.same != (said.refusal > 0) {
         return faults::MEMORY;
     }
-    if number > 0 {
+    0
+}
+
+// The fault of what an update left that was not refused: a table that is not sound, or on which it is not done.
+fn left_fault(
+    tried: Tried,
+    table: &Table,
+    store: &Store,
+    held_found: usize,
+    label: &[u8],
+    call: usize,
+) -> usize {
+    let said = tried.said;
+    if said.refusal > 0 {
         return 0;
     }
-    if done && oracles::sound::is_sound(table, store) {
-        return 0;
+    if !oracles::sound::is_sound(table, store) {
+        return faults::SOUND;
     }
-    faults::SOUND
+    let after = oracles::steps::search(table, store, label);
+    match call {
+        INSERT => inserted_fault(said.slot, after, held_found, held(table)),
+        DELETE => deleted_fault(after, held_found, held(table)),
+        _ => laid_out_fault(table),
+    }
+}
+
+// One label more, which a search finds in the slot, with the value.
+fn inserted_fault(slot: usize, after: Answer, held_found: usize, held_left: usize) -> usize {
+    if held_left != wrapping_add_usize(held_found, 1) {
+        return faults::HEAD;
+    }
+    if after.slot != slot {
+        return faults::MEMORY;
+    }
+    if after.value != VALUE as usize {
+        return faults::MEMORY;
+    }
+    0
+}
+
+// One label less, which a search does not find.
+fn deleted_fault(after: Answer, held_found: usize, held_left: usize) -> usize {
+    if held_found != wrapping_add_usize(held_left, 1) {
+        return faults::HEAD;
+    }
+    if after.slot > 0 {
+        return faults::MEMORY;
+    }
+    0
+}
+
+// A sound table with high mark 0 is all zero.
+fn laid_out_fault(table: &Table) -> usize {
+    if memory::word(table, memory::MARK) > 0 {
+        return faults::HEAD;
+    }
+    0
 }

@@ -1,5 +1,5 @@
 // The table and store after a call, compared with the map.
-use crate::answers;
+use crate::calls;
 use oracles::memory;
 use oracles::memory::Store;
 use oracles::memory::Table;
@@ -8,7 +8,10 @@ use reports::faults;
 
 // Whether two tables and stores hold the same words and bytes.
 pub fn same(table: &Table, store: &Store, other_table: &Table, other_store: &Store) -> bool {
-    same_words(table, other_table) && same_bytes(store, other_store)
+    if !same_words(table, other_table) {
+        return false;
+    }
+    same_bytes(store, other_store)
 }
 
 pub fn same_words(one: &[u16], other: &[u16]) -> bool {
@@ -37,7 +40,7 @@ pub fn same_bytes(one: &[u8], other: &[u8]) -> bool {
 
 // Soundness, by the index and by the second writing; the head's words; the listing; every label through the view.
 pub fn compare(table: &Table, store: &Store, map: &Lists) -> usize {
-    if answers::of_done(index::check(table, store)) > 0 {
+    if calls::check(table, store) > 0 {
         return faults::CHECK;
     }
     if !oracles::sound::is_sound(table, store) {
@@ -57,16 +60,23 @@ pub fn compare(table: &Table, store: &Store, map: &Lists) -> usize {
 
 // The labels held, the high mark, and the slot freed last.
 fn head_agrees(table: &Table, map: &Lists) -> bool {
-    memory::word(table, memory::HELD) == plainmap::held(map)
-        && memory::word(table, memory::MARK) == plainmap::high(map)
-        && memory::word(table, memory::FREE) == plainmap::last_freed(map)
+    if memory::word(table, memory::HELD) != plainmap::held(map) {
+        return false;
+    }
+    if memory::word(table, memory::MARK) != plainmap::high(map) {
+        return false;
+    }
+    memory::word(table, memory::FREE) == plainmap::last_freed(map)
 }
 
 // The listing's words, and the later ones, which stay.
 fn listing_agrees(table: &Table, store: &Store, map: &Lists) -> bool {
     let mut list = [65535u16; 513];
-    let said = answers::of_listing(index::listing(table, store, &mut list));
-    if said.number > 0 || said.count != plainmap::held(map) {
+    let said = calls::listing(table, store, &mut list);
+    if said.refusal > 0 {
+        return false;
+    }
+    if said.count != plainmap::held(map) {
         return false;
     }
     order_agrees(&list, map, said.count)
@@ -78,15 +88,19 @@ fn wide(x: u16) -> usize {
 
 fn order_agrees(list: &[u16; 513], map: &Lists, count: usize) -> bool {
     for i in 0..513usize {
-        let mut slot = 65535usize;
-        if i < count {
-            slot = plainmap::slot_at(map, i);
-        }
-        if wide(list[i]) != slot {
+        if wide(list[i]) != listed(map, i, count) {
             return false;
         }
     }
     true
+}
+
+// Word `i` of a list with the slots of so many labels.
+fn listed(map: &Lists, i: usize, count: usize) -> usize {
+    if i < count {
+        return plainmap::slot_at(map, i);
+    }
+    65535
 }
 
 fn views_agree(table: &Table, store: &Store, map: &Lists) -> bool {
@@ -101,13 +115,18 @@ fn views_agree(table: &Table, store: &Store, map: &Lists) -> bool {
 
 // A slot's label through the view, and its value.
 fn view_agrees(table: &Table, store: &Store, map: &Lists, slot: usize) -> bool {
-    if answers::of_done(index::view_check(table, store, slot)) > 0 {
+    if calls::view_check(table, store, slot) > 0 {
         return false;
     }
-    let label = index::view(table, store, slot);
+    if memory::field(table, slot, memory::VALUE) != plainmap::value_of(map, slot) {
+        return false;
+    }
+    spells(map, slot, index::view(table, store, slot))
+}
+
+fn spells(map: &Lists, slot: usize, label: &[u8]) -> bool {
     if label.len() != plainmap::length_of(map, slot) {
         return false;
     }
     plainmap::labels::difference(map, slot, label) == 0
-        && memory::field(table, slot, memory::VALUE) == plainmap::value_of(map, slot)
 }

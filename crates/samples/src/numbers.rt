@@ -29,10 +29,7 @@ pub fn value(one: usize, other: usize) -> u16 {
     (mixed(one, other) % 65536) as u16
 }
 
-// The number `step` further on a circle of `n`.
-pub fn stepped(k: usize, step: usize, n: usize) -> usize {
-    if n == 0 {
-        return 0;
-    }
-    std::num::wrapping_add_usize(k, step) % n
+// The number of a sequence that stands for one of another and a count.
+pub fn mixed_seed(seed: u64, count: usize) -> u64 {
+    next(next(next(std::num::wrapping_add_u64(seed, count as u64))))
 }

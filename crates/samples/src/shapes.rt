@@ -14,85 +14,119 @@ pub const ENDS: usize = 2;
 pub const SHORT: usize = 3;
 // Any bytes, lengths 1 to 64, and now and then 0 or 65.
 pub const ANY: usize = 4;
+// Letters "z" alone: 64 of them, 65, or none.
+pub const LONGEST: usize = 5;
 
 // How many labels a shape has.
 pub const COUNT: usize = 800;
 
-// Writes a shape's label, and gives its length.
+// Writes 66 bytes, the first of which are a shape's label, and gives its length.
 pub fn write(label: &mut Label, shape: usize, k: usize) -> usize {
-    match shape {
-        ROSTER => roster(label, k),
-        ALIKE => alike(label, k),
-        ENDS => ends(label, k),
-        SHORT => short(label, k),
-        _ => any(label, k),
-    }
-}
-
-fn put(label: &mut Label, i: usize, x: usize) {
-    if i < 66 {
-        label[i] = (x % 256) as u8;
-    }
-}
-
-// Writes the last four decimal digits of `k` from byte `i` on.
-fn put_digits(label: &mut Label, i: usize, k: usize) {
-    if i < 60 {
-        put(label, i, 48 + k / 1000 % 10);
-        put(label, i + 1, 48 + k / 100 % 10);
-        put(label, i + 2, 48 + k / 10 % 10);
-        put(label, i + 3, 48 + k % 10);
-    }
-}
-
-fn roster(label: &mut Label, k: usize) -> usize {
-    put(label, 0, 115);
-    put(label, 1, 116);
-    put(label, 2, 114);
-    put(label, 3, 97);
-    put(label, 4, 112);
-    put(label, 5, 45);
-    put_digits(label, 6, k);
-    10
-}
-
-fn alike(label: &mut Label, k: usize) -> usize {
-    for i in 0..40usize {
-        put(label, i, 104);
-    }
-    if k % 7 == 0 {
-        put(label, k % 40, 103 + k % 3);
-    }
-    put_digits(label, 40, k);
-    44 - k % 2
-}
-
-fn ends(label: &mut Label, k: usize) -> usize {
-    let pattern = k / 64;
-    for i in 0..64usize {
-        let bit = (pattern >> (i % 4)) % 2;
-        put(label, i, 255 * bit);
-    }
-    k % 64 + 1
-}
-
-fn short(label: &mut Label, k: usize) -> usize {
-    put(label, 0, 97 + k % 4);
-    put(label, 1, 97 + k / 4 % 4);
-    put(label, 2, 97 + k / 16 % 4);
-    k / 64 % 3 + 1
-}
-
-fn any(label: &mut Label, k: usize) -> usize {
     for i in 0..66usize {
-        put(label, i, numbers::mixed(k, i));
+        label[i] = narrow(byte(shape, k, i));
     }
-    let n = numbers::mixed(k, 66) % 100;
-    if n == 98 {
-        return 0;
+    length(shape, k)
+}
+
+// The first `n` bytes of a label, or all where there are fewer.
+pub fn opening(label: &Label, n: usize) -> &[u8] {
+    part(label, n)
+}
+
+fn part(bytes: &[u8], n: usize) -> &[u8] {
+    if n > bytes.len() {
+        return bytes;
     }
-    if n == 99 {
-        return 65;
+    &bytes[..n]
+}
+
+fn narrow(x: usize) -> u8 {
+    (x % 256) as u8
+}
+
+fn length(shape: usize, k: usize) -> usize {
+    match shape {
+        ROSTER => 10,
+        ALIKE => 44 - k % 2,
+        ENDS => k % 64 + 1,
+        SHORT => k / 64 % 3 + 1,
+        LONGEST => longest_length(k),
+        _ => any_length(numbers::mixed(k, 66) % 100),
     }
-    n % 64 + 1
+}
+
+fn longest_length(k: usize) -> usize {
+    match k {
+        0 => 64,
+        1 => 65,
+        _ => 0,
+    }
+}
+
+fn any_length(n: usize) -> usize {
+    match n {
+        98 => 0,
+        99 => 65,
+        _ => n % 64 + 1,
+    }
+}
+
+// Byte `i` of the label with number `k`.
+fn byte(shape: usize, k: usize, i: usize) -> usize {
+    match shape {
+        ROSTER => roster_byte(k, i),
+        ALIKE => alike_byte(k, i),
+        ENDS => 255 * ((k / 64 >> (i % 4)) % 2),
+        SHORT => short_byte(k, i),
+        LONGEST => 122,
+        _ => numbers::mixed(k, i),
+    }
+}
+
+fn roster_byte(k: usize, i: usize) -> usize {
+    match i {
+        0 => 115,
+        1 => 116,
+        2 => 114,
+        3 => 97,
+        4 => 112,
+        5 => 45,
+        6 => digit(k / 1000),
+        7 => digit(k / 100),
+        8 => digit(k / 10),
+        _ => digit(k),
+    }
+}
+
+// The last decimal digit of a number.
+fn digit(x: usize) -> usize {
+    48 + x % 10
+}
+
+fn alike_byte(k: usize, i: usize) -> usize {
+    match i {
+        40 => digit(k / 1000),
+        41 => digit(k / 100),
+        42 => digit(k / 10),
+        43 => digit(k),
+        _ => shared_byte(k, i),
+    }
+}
+
+// One of the opening bytes: of every seventh label one of them may be another.
+fn shared_byte(k: usize, i: usize) -> usize {
+    if k % 7 == 0 {
+        if i == k % 40 {
+            return 103 + k % 3;
+        }
+    }
+    104
+}
+
+fn short_byte(k: usize, i: usize) -> usize {
+    match i {
+        0 => 97 + k % 4,
+        1 => 97 + k / 4 % 4,
+        _ => 97 + k / 16 % 4,
+    }
 }

@@ -1,160 +1,88 @@
-// The groups of calls on sound tables.
+// The groups of calls on sound tables, made and counted.
+use crate::plans;
+use crate::plans::Plan;
+use crate::plans::Planned;
 use oracles::memory::Store;
 use oracles::memory::Table;
 use plainmap::lists::Lists;
 use reports::Round;
+use reports::faults;
 use reports::tallies;
-use reports::tallies::DELETE;
-use reports::tallies::INSERT;
-use reports::tallies::SEARCH;
 use reports::tallies::Tally;
 use samples::numbers;
 use samples::shapes;
-use samples::shapes::Label;
 
-// Lays out the index and empties the map.
-pub fn start(table: &mut Table, store: &mut Store, map: &mut Lists) {
+// Makes a group's calls on an empty index and map, and prints its line.
+pub fn run(table: &mut Table, store: &mut Store, map: &mut Lists, group: usize) {
+    let plan = plans::plan_of(group);
     index::layout(table, store);
     plainmap::clear(map);
+    let tally = made(table, store, map, plan);
+    print(plan, tally);
 }
 
-// Inserts, searches and deletes every label of a shape, in steps around their numbers.
-pub fn filled(
-    table: &mut Table,
-    store: &mut Store,
-    map: &mut Lists,
-    shape: usize,
-    step: usize,
-) -> Tally {
-    let n = shapes::COUNT;
-    let none = tallies::empty();
-    start(table, store, map);
-    let a = sweep(table, store, map, none, INSERT, shape, step, n);
-    let b = sweep(table, store, map, a, SEARCH, shape, step, n);
-    sweep(table, store, map, b, DELETE, shape, step, n)
+fn print(plan: Plan, tally: Tally) {
+    tallies::print(
+        plan.shape,
+        b", case 11|, in order|, reversed|, stepped|, drawn|, prepared",
+        plan.way,
+        b": calls 0, found 1, absent 2, inserted 3, deleted 4, refused 5, most held 6, mismatches 7",
+        tally,
+    );
 }
 
-// Makes a call on `times` labels of a shape, in steps around their numbers.
-pub fn sweep(
-    table: &mut Table,
-    store: &mut Store,
-    map: &mut Lists,
-    tally: Tally,
-    call: usize,
-    shape: usize,
-    step: usize,
-    times: usize,
-) -> Tally {
-    let mut t = tally;
-    let mut k = 0usize;
-    for i in 0..times {
-        t = numbered(table, store, map, t, call, shape, k);
-        k = numbers::stepped(k, step, shapes::COUNT);
-    }
-    t
-}
-
-// Calls from the generator: for 900 calls mostly inserts, then for 900 mostly deletes, and so on.
-pub fn drawn(table: &mut Table, store: &mut Store, map: &mut Lists, shape: usize) -> Tally {
-    start(table, store, map);
-    let mut t = tallies::empty();
+fn made(table: &mut Table, store: &mut Store, map: &mut Lists, plan: Plan) -> Tally {
+    let mut tally = tallies::none();
     let mut seed = numbers::SEED;
-    for i in 0..8000usize {
+    let n = plan.calls;
+    for i in 0..n {
         seed = numbers::next(seed);
-        let call = drawn_call(seed, i / 900 % 2);
+        let counted = call(table, store, map, plans::call(plan, i, seed), tally);
+        tally = counted;
         seed = numbers::next(seed);
-        let k = numbers::below(seed, shapes::COUNT);
-        t = numbered(table, store, map, t, call, shape, k);
     }
-    t
+    tally
 }
 
-fn drawn_call(seed: u64, phase: usize) -> usize {
-    let n = numbers::below(seed, 10);
-    if n < 2 {
-        return SEARCH;
-    }
-    if (n < 8) == (phase == 0) {
-        return INSERT;
-    }
-    DELETE
-}
-
-// Makes a call on a shape's label, and counts it.
-fn numbered(
+fn call(
     table: &mut Table,
     store: &mut Store,
     map: &mut Lists,
+    planned: Planned,
     tally: Tally,
-    call: usize,
-    shape: usize,
-    k: usize,
 ) -> Tally {
     let mut label = [0u8; 66];
-    let len = shapes::write(&mut label, shape, k);
-    let value = numbers::value(k, tally.inserted);
-    let round = opening(table, store, map, call, &label, len, value);
-    tallies::count(tally, call, round, plainmap::held(map))
+    let n = shapes::write(&mut label, planned.shape, planned.label);
+    let value = numbers::value(planned.label, tallies::get(tally, tallies::INSERTED));
+    let text = shapes::opening(&label, n);
+    let round = labelled(table, store, map, planned, text, value);
+    tallies::count(tally, planned.call, round, plainmap::held(map))
 }
 
-// Makes a call on the first `len` bytes of a label.
-pub fn opening(
+// Makes a call on a label; where it has a fault it is printed.
+fn labelled(
     table: &mut Table,
     store: &mut Store,
     map: &mut Lists,
-    call: usize,
-    label: &Label,
-    len: usize,
-    value: u16,
-) -> Round {
-    part(table, store, map, call, label, len, value)
-}
-
-fn part(
-    table: &mut Table,
-    store: &mut Store,
-    map: &mut Lists,
-    call: usize,
-    label: &[u8],
-    len: usize,
-    value: u16,
-) -> Round {
-    if len > label.len() {
-        return made(table, store, map, call, label, value);
-    }
-    made(table, store, map, call, &label[..len], value)
-}
-
-// Makes a call, compares the table and store after it, and prints the call if anything differs.
-fn made(
-    table: &mut Table,
-    store: &mut Store,
-    map: &mut Lists,
-    call: usize,
+    planned: Planned,
     label: &[u8],
     value: u16,
 ) -> Round {
-    let mut round = called(table, store, map, call, label, value);
-    if round.fault == 0 {
-        round.fault = rounds::states::compare(table, store, map);
+    let mut round = rounds::made(table, store, map, planned.call, label, value);
+    let fault = fault_of(round, planned.refusal);
+    if fault > 0 {
+        tallies::print_mismatch(planned.call, label, fault);
     }
-    if round.fault > 0 {
-        tallies::print_mismatch(call, label, value, round.fault);
-    }
+    round.fault = fault;
     round
 }
 
-fn called(
-    table: &mut Table,
-    store: &mut Store,
-    map: &mut Lists,
-    call: usize,
-    label: &[u8],
-    value: u16,
-) -> Round {
-    match call {
-        SEARCH => rounds::search(table, store, map, label),
-        INSERT => rounds::insert(table, store, map, label, value),
-        _ => rounds::delete(table, store, map, label),
+// The fault of a call that was to have a refusal's number.
+fn fault_of(round: Round, refusal: usize) -> usize {
+    if refusal != plans::ANY_REFUSAL {
+        if refusal != round.refusal {
+            return faults::CASE;
+        }
     }
+    round.fault
 }

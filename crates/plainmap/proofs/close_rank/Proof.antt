@@ -20,14 +20,11 @@ held-requires c κs = search needs
 loop-holds : tie.Need-loop-holds Inv-loop μ-loop
 loop-holds c = search needs
 
-add-slot-at : tie.Need-add-slot-at Inv-loop μ-loop
-add-slot-at c = search needs
+add-move-rank : tie.Need-add-move-rank Inv-loop μ-loop
+add-move-rank c = search needs
 
-slot-at-requires : tie.Need-slot-at-requires Inv-loop μ-loop
-slot-at-requires c κs = search needs
-
-put-requires : tie.Need-put-requires Inv-loop μ-loop
-put-requires c κs = search needs
+move-rank-requires : tie.Need-move-rank-requires Inv-loop μ-loop
+move-rank-requires c κs = search needs
 
 add-i : tie.Need-add-i Inv-loop μ-loop
 add-i c = search needs
@@ -50,9 +47,8 @@ close-rank-spec =
     lower-requires
     held-requires
     loop-holds
-    add-slot-at
-    slot-at-requires
-    put-requires
+    add-move-rank
+    move-rank-requires
     add-i
     loop-less
     loop-again

@@ -6,13 +6,10 @@ use Rattle.plainmap.proofs.open_rank.Statement.{statement}
 use Rattle.plainmap.proofs.open_rank.Tie as tie
 
 abbrev Inv-loop : tie.InvT-loop
-Inv-loop map₀ rank i₀ map i = i ≤ i₀
+Inv-loop map₀ rank slot i₀ map i = i ≤ i₀
 
 abbrev μ-loop : tie.MeasureT-loop
-μ-loop map₀ rank i₀ map i = i
-
-held-requires : tie.Need-held-requires Inv-loop μ-loop
-held-requires c κs = search needs
+μ-loop map₀ rank slot i₀ map i = i
 
 raise-requires : tie.Need-raise-requires Inv-loop μ-loop
 raise-requires c κs = search needs
@@ -20,14 +17,11 @@ raise-requires c κs = search needs
 loop-holds : tie.Need-loop-holds Inv-loop μ-loop
 loop-holds c = search needs
 
-sub-slot-at : tie.Need-sub-slot-at Inv-loop μ-loop
-sub-slot-at c = search needs
+sub-move-rank : tie.Need-sub-move-rank Inv-loop μ-loop
+sub-move-rank c = search needs
 
-slot-at-requires : tie.Need-slot-at-requires Inv-loop μ-loop
-slot-at-requires c κs = search needs
-
-put-requires : tie.Need-put-requires Inv-loop μ-loop
-put-requires c κs = search needs
+move-rank-requires : tie.Need-move-rank-requires Inv-loop μ-loop
+move-rank-requires c κs = search needs
 
 sub-i : tie.Need-sub-i Inv-loop μ-loop
 sub-i c = search needs
@@ -38,6 +32,9 @@ loop-less c = search needs
 loop-again : tie.Need-loop-again Inv-loop μ-loop
 loop-again c = search needs
 
+put-requires : tie.Need-put-requires Inv-loop μ-loop
+put-requires c κs = search needs
+
 returns : tie.Need-returns Inv-loop μ-loop
 returns c = search needs
 
@@ -47,13 +44,12 @@ open-rank-spec =
     (tie.spec
     Inv-loop
     μ-loop
-    held-requires
     raise-requires
     loop-holds
-    sub-slot-at
-    slot-at-requires
-    put-requires
+    sub-move-rank
+    move-rank-requires
     sub-i
     loop-less
     loop-again
+    put-requires
     returns)

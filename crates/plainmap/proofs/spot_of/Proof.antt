@@ -23,14 +23,17 @@ slot-at-requires c κs = search needs
 difference-requires : tie.Need-difference-requires Inv-loop μ-loop
 difference-requires c κs = search needs
 
-number-requires : tie.Need-number-requires Inv-loop μ-loop
-number-requires c κs = search needs
+returns : tie.Need-returns Inv-loop μ-loop
+returns c = search needs
+
+slot-number-requires : tie.Need-slot-number-requires Inv-loop μ-loop
+slot-number-requires c κs = search needs
 
 label-number-requires : tie.Need-label-number-requires Inv-loop μ-loop
 label-number-requires c κs = search needs
 
-returns : tie.Need-returns Inv-loop μ-loop
-returns c = search needs
+returns-2 : tie.Need-returns-2 Inv-loop μ-loop
+returns-2 c = search needs
 
 add-i : tie.Need-add-i Inv-loop μ-loop
 add-i c = search needs
@@ -41,8 +44,8 @@ loop-less c = search needs
 loop-again : tie.Need-loop-again Inv-loop μ-loop
 loop-again c = search needs
 
-returns-2 : tie.Need-returns-2 Inv-loop μ-loop
-returns-2 c = search needs
+returns-3 : tie.Need-returns-3 Inv-loop μ-loop
+returns-3 c = search needs
 
 pub spot-of-spec : {M : Type 1} → statement M
 spot-of-spec =
@@ -54,10 +57,11 @@ spot-of-spec =
     loop-holds
     slot-at-requires
     difference-requires
-    number-requires
-    label-number-requires
     returns
+    slot-number-requires
+    label-number-requires
+    returns-2
     add-i
     loop-less
     loop-again
-    returns-2)
+    returns-3)

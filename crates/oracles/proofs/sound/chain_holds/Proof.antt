@@ -20,14 +20,11 @@ word-requires-2 c κs = search needs
 loop-holds : tie.Need-loop-holds Inv-loop μ-loop
 loop-holds c = search needs
 
-get-requires : tie.Need-get-requires Inv-loop μ-loop
-get-requires c κs = search needs
-
 returns : tie.Need-returns Inv-loop μ-loop
 returns c = search needs
 
-slot-is-zero-requires : tie.Need-slot-is-zero-requires Inv-loop μ-loop
-slot-is-zero-requires c κs = search needs
+is-freed-requires : tie.Need-is-freed-requires Inv-loop μ-loop
+is-freed-requires c κs = search needs
 
 returns-2 : tie.Need-returns-2 Inv-loop μ-loop
 returns-2 c = search needs
@@ -59,9 +56,8 @@ chain-holds-spec =
     word-requires
     word-requires-2
     loop-holds
-    get-requires
     returns
-    slot-is-zero-requires
+    is-freed-requires
     returns-2
     put-requires
     field-requires

@@ -20,8 +20,8 @@ label-number-requires c κs = search needs
 returns : tie.Need-returns Inv-loop μ-loop
 returns c = search needs
 
-number-requires : tie.Need-number-requires Inv-loop μ-loop
-number-requires c κs = search needs
+number-at-requires : tie.Need-number-at-requires Inv-loop μ-loop
+number-at-requires c κs = search needs
 
 returns-2 : tie.Need-returns-2 Inv-loop μ-loop
 returns-2 c = search needs
@@ -47,7 +47,7 @@ compared-to-spec =
     loop-holds
     label-number-requires
     returns
-    number-requires
+    number-at-requires
     returns-2
     add-place
     loop-less

@@ -14,8 +14,8 @@ abbrev μ-loop : tie.MeasureT-loop
 loop-holds : tie.Need-loop-holds Inv-loop μ-loop
 loop-holds c = search needs
 
-number-requires : tie.Need-number-requires Inv-loop μ-loop
-number-requires c κs = search needs
+slot-number-requires : tie.Need-slot-number-requires Inv-loop μ-loop
+slot-number-requires c κs = search needs
 
 label-number-requires : tie.Need-label-number-requires Inv-loop μ-loop
 label-number-requires c κs = search needs
@@ -42,7 +42,7 @@ difference-spec =
     Inv-loop
     μ-loop
     loop-holds
-    number-requires
+    slot-number-requires
     label-number-requires
     returns
     add-place

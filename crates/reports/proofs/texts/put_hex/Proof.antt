@@ -1,8 +1,8 @@
--- `reports::texts::put_hex` is safe and ends. The loop's invariant: its counter stays within its range. The measure is
--- what is left of the range. Assumes nothing.
+-- `reports::texts::put_hex` is safe and ends. The loop's invariant: its counter stays within its range. The measure
+-- is what is left of the range. Assumes nothing.
 use Prim.Native.Nat.{_≤_, _-_}
-use borrow.Author.Needs.{needs}
 use lib.ListN.{length}
+use borrow.Author.Needs.{needs}
 use Rattle.reports.proofs.texts.put_hex.Statement.{statement}
 use Rattle.reports.proofs.texts.put_hex.Tie as tie
 

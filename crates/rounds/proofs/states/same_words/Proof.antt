@@ -1,8 +1,8 @@
 -- `rounds::states::same_words` is safe and ends. The loop's invariant: its counter stays within its range. The
 -- measure is what is left of the range. Assumes nothing.
 use Prim.Native.Nat.{_≤_, _-_}
-use borrow.Author.Needs.{needs}
 use lib.ListN.{length}
+use borrow.Author.Needs.{needs}
 use Rattle.rounds.proofs.states.same_words.Statement.{statement}
 use Rattle.rounds.proofs.states.same_words.Tie as tie
 

@@ -1,0 +1,16 @@
+// The calls by number: first those that leave the memory.
+pub const SEARCH: usize = 0;
+
+pub const CHECK: usize = 1;
+
+pub const LISTING: usize = 2;
+
+pub const VIEW_CHECK: usize = 3;
+
+pub const VIEW: usize = 4;
+
+pub const INSERT: usize = 5;
+
+pub const DELETE: usize = 6;
+
+pub const LAYOUT: usize = 7;

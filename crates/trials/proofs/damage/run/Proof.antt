@@ -1,0 +1,47 @@
+-- `trials::damage::run` is safe and ends. The loop's invariant: its counter stays within its range. The measure is
+-- what is left of the range. Assumes nothing.
+use Prim.Native.Nat.{_≤_, _-_}
+use borrow.Author.Needs.{needs}
+use Rattle.trials.proofs.damage.run.Statement.{statement}
+use Rattle.trials.proofs.damage.run.Tie as tie
+
+abbrev Inv-loop : tie.InvT-loop
+Inv-loop table store shape kind₀ kind = kind ≤ 7
+
+abbrev μ-loop : tie.MeasureT-loop
+μ-loop table store shape kind₀ kind = 7 - kind
+
+loop-holds : tie.Need-loop-holds Inv-loop μ-loop
+loop-holds c = search needs
+
+group-requires : tie.Need-group-requires Inv-loop μ-loop
+group-requires c κs = search needs
+
+print-requires : tie.Need-print-requires Inv-loop μ-loop
+print-requires c κs = search needs
+
+add-kind : tie.Need-add-kind Inv-loop μ-loop
+add-kind c = search needs
+
+loop-less : tie.Need-loop-less Inv-loop μ-loop
+loop-less c = search needs
+
+loop-again : tie.Need-loop-again Inv-loop μ-loop
+loop-again c = search needs
+
+returns : tie.Need-returns Inv-loop μ-loop
+returns c = search needs
+
+pub run-spec : {M : Type 1} → statement M
+run-spec =
+    tie.close
+    (tie.spec
+    Inv-loop
+    μ-loop
+    loop-holds
+    group-requires
+    print-requires
+    add-kind
+    loop-less
+    loop-again
+    returns)
