@@ -6,13 +6,14 @@ enum { CHANGED_BITS = 4000 };
 static void compare_search(const struct workload *w, const uint8_t *x, size_t n)
 {
     uint64_t said = strap_search(w->table, WORDS, w->store, BYTES, x, n);
-    uint64_t value = kind_of(said) == FOUND ? (uint64_t)value_of(said) + 1 : 0;
+    uint64_t value = strap_kind_of(said) == STRAP_FOUND ? (uint64_t)strap_value_of(said) + 1 : 0;
     uint64_t whole = whole_counts(w->table, w->store, x, n);
-    if (kind_of(said) == REFUSED)
+    if (strap_kind_of(said) == STRAP_REFUSED)
         fail("a search was refused");
     if (said != digital_search(w->table, WORDS, w->store, BYTES, x, n))
         fail("the C of the same method answers otherwise");
-    if (kind_of(whole) != kind_of(said) || visits_of(whole) != visits_of(said) || places_of(whole) < places_of(said))
+    if (strap_kind_of(whole) != strap_kind_of(said) || strap_visits_of(whole) != strap_visits_of(said) ||
+        strap_places_of(whole) < strap_places_of(said))
         fail("the search with whole labels goes another way");
     if (value != whole_search(w->table, w->store, x, n) || value != array_search(w->entries, w->labels.count, x, n) ||
         value != map_search(w->map, x, n) || value != btree_search(w->btree, x, n))
@@ -59,7 +60,7 @@ static void compare_changed(struct workload *w, const uint8_t *x, size_t n)
 
 static void see_sound(const uint16_t *table, const uint8_t *store)
 {
-    uint64_t done = pack(DONE, 0, 0, 0, 0);
+    uint64_t done = pack(STRAP_DONE, 0, 0, 0, 0);
     if (strap_check(table, WORDS, store, BYTES) != done || sound_check(table, WORDS, store, BYTES) != done)
         fail("a table is not sound");
 }

@@ -1,39 +1,22 @@
-/* The contestants of the benchmark. A slice passes as its pointer and its length. */
+/* The contestants of the benchmark, beside the proved index. A slice passes as its pointer and its length. */
 #ifndef BENCH_H
 #define BENCH_H
 
-#include <stddef.h>
-#include <stdint.h>
+#include "strap_index.h"
 
-enum { SLOTS = 512, WIDTH = 64, DEPTH = 12, WORDS = 4 + 8 * SLOTS, BYTES = SLOTS * WIDTH };
+enum { SLOTS = STRAP_SLOTS, WIDTH = STRAP_WIDTH, DEPTH = 12, WORDS = STRAP_WORDS, BYTES = STRAP_BYTES };
 
-/* An answer in one number, from its lowest bits: 4 of kind, 12 of places, 16 of visits, then 16 and 16. */
-enum { REFUSED = 0, FOUND = 1, ABSENT = 2, UPDATED = 3, DONE = 4 };
-
-static inline uint64_t pack(uint64_t kind, uint64_t places, uint64_t visits, uint64_t one, uint64_t other)
+/* An answer as the index packs it. */
+static inline uint64_t pack(enum strap_kind kind, uint64_t places, uint64_t visits, uint64_t one, uint64_t other)
 {
-    return kind | places << 4 | visits << 16 | one << 32 | other << 48;
+    return (uint64_t)kind | places << 4 | visits << 16 | one << 32 | other << 48;
 }
-static inline unsigned kind_of(uint64_t a) { return a & 15; }
-static inline unsigned places_of(uint64_t a) { return a >> 4 & 4095; }
-static inline unsigned visits_of(uint64_t a) { return a >> 16 & 65535; }
-static inline unsigned slot_of(uint64_t a) { return a >> 32 & 65535; }
-static inline unsigned value_of(uint64_t a) { return a >> 48 & 65535; }
 
 /* For the contestants that count nothing: the value plus 1, or 0 where the label is absent. */
 
 #ifdef __cplusplus
 extern "C" {
 #endif
-
-/* the proved index: libexports.a */
-uint64_t strap_layout(uint16_t *table, size_t words, uint8_t *store, size_t bytes);
-uint64_t strap_search(const uint16_t *table, size_t words, const uint8_t *store, size_t bytes, const uint8_t *label,
-                      size_t n);
-uint64_t strap_insert(uint16_t *table, size_t words, uint8_t *store, size_t bytes, const uint8_t *label, size_t n,
-                      uint16_t value);
-uint64_t strap_delete(uint16_t *table, size_t words, uint8_t *store, size_t bytes, const uint8_t *label, size_t n);
-uint64_t strap_check(const uint16_t *table, size_t words, const uint8_t *store, size_t bytes);
 
 /* digital.c: the same search in plain C, over the same words and bytes */
 uint64_t digital_search(const uint16_t *table, size_t words, const uint8_t *store, size_t bytes, const uint8_t *label,

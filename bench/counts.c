@@ -15,9 +15,9 @@ void print_workloads(void)
             const uint8_t *x = w->queries.at[i].bytes;
             size_t n = w->queries.at[i].len;
             uint64_t said = strap_search(w->table, WORDS, w->store, BYTES, x, n);
-            visits += visits_of(said);
-            digital += places_of(said);
-            whole += places_of(whole_counts(w->table, w->store, x, n));
+            visits += strap_visits_of(said);
+            digital += strap_places_of(said);
+            whole += strap_places_of(whole_counts(w->table, w->store, x, n));
         }
         printf("%d\tseries\t%s\n%d\tname\t%s\n", number, w->series, number, w->name);
         if (w->table_name != NULL)

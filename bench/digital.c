@@ -1,31 +1,31 @@
 /* The search of the index in plain C: the same steps, the same refusals and the same counts. */
 #include "bench.h"
 
-static uint64_t refused(uint64_t number)
+static uint64_t refused(enum strap_refusal number)
 {
-    return pack(REFUSED, 0, 0, number, 0);
+    return pack(STRAP_REFUSED, 0, 0, number, 0);
 }
 
 uint64_t digital_search(const uint16_t *table, size_t words, const uint8_t *store, size_t bytes, const uint8_t *label,
                         size_t n)
 {
     if (words != WORDS)
-        return refused(1);
+        return refused(STRAP_WRONG_TABLE);
     if (bytes != BYTES)
-        return refused(2);
+        return refused(STRAP_WRONG_STORE);
     if (n == 0)
-        return refused(3);
+        return refused(STRAP_EMPTY_LABEL);
     if (n > WIDTH)
-        return refused(4);
+        return refused(STRAP_LONG_LABEL);
     size_t p = 1, s = 1, visits = 0, places = 0;
     size_t link = table[0];
     while (link != 0) {
         if (visits >= DEPTH || link > SLOTS)
-            return refused(5);
+            return refused(STRAP_BROKEN_WALK);
         const uint16_t *row = table + 4 + 8 * (link - 1);
         size_t d = row[2], side = row[3], len = row[5];
         if (len == 0 || len > WIDTH || d == 0 || d > len + 1 || side > 1)
-            return refused(5);
+            return refused(STRAP_BROKEN_WALK);
         visits++;
         size_t reached = side == 0 ? p : s;
         if (reached != d) {
@@ -42,7 +42,7 @@ uint64_t digital_search(const uint16_t *table, size_t words, const uint8_t *stor
         if (i < end)
             larger = label[i] > held[i];
         else if (n == len)
-            return pack(FOUND, places, visits, link, row[6]);
+            return pack(STRAP_FOUND, places, visits, link, row[6]);
         else
             larger = n > len;
         if (larger)
@@ -51,5 +51,5 @@ uint64_t digital_search(const uint16_t *table, size_t words, const uint8_t *stor
             s = i + 1;
         link = row[larger];
     }
-    return pack(ABSENT, places, visits, 0, 0);
+    return pack(STRAP_ABSENT, places, visits, 0, 0);
 }

@@ -90,14 +90,14 @@ static bool chain_is(const struct memory *m, size_t high, size_t freed, size_t l
 uint64_t sound_check(const uint16_t *table, size_t words, const uint8_t *store, size_t bytes)
 {
     if (words != WORDS)
-        return pack(REFUSED, 0, 0, 1, 0);
+        return pack(STRAP_REFUSED, 0, 0, STRAP_WRONG_TABLE, 0);
     if (bytes != BYTES)
-        return pack(REFUSED, 0, 0, 2, 0);
+        return pack(STRAP_REFUSED, 0, 0, STRAP_WRONG_STORE, 0);
     struct memory m = {table, store};
     size_t held = table[1], high = table[3], count = 0;
     if (held <= high && high <= SLOTS && zero_words(table, 4 + 8 * high, WORDS) &&
         zero_bytes(store, WIDTH * high, BYTES) && height_of(&m, DEPTH, table[0], 0, 0, &count) >= 0 && count == held &&
         chain_is(&m, high, high - held, table[2]))
-        return pack(DONE, 0, 0, 0, 0);
-    return pack(REFUSED, 0, 0, 6, 0);
+        return pack(STRAP_DONE, 0, 0, 0, 0);
+    return pack(STRAP_REFUSED, 0, 0, STRAP_NOT_SOUND, 0);
 }

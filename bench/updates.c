@@ -6,7 +6,7 @@ void update(const struct update *u)
 {
     uint64_t said = u->inserts ? strap_insert(u->table, WORDS, u->store, BYTES, u->label, u->n, u->value)
                                : strap_delete(u->table, WORDS, u->store, BYTES, u->label, u->n);
-    if (kind_of(said) != UPDATED)
+    if (strap_kind_of(said) != STRAP_UPDATED)
         fail("an update was refused");
 }
 

@@ -32,8 +32,8 @@ uint64_t whole_counts(const uint16_t *table, const uint8_t *store, const uint8_t
         visits++;
         places += i + 1;
         if (i == end && n == len)
-            return pack(FOUND, places, visits, link, row[6]);
+            return pack(STRAP_FOUND, places, visits, link, row[6]);
         link = row[i < end ? label[i] > held[i] : n > len];
     }
-    return pack(ABSENT, places, visits, 0, 0);
+    return pack(STRAP_ABSENT, places, visits, 0, 0);
 }

@@ -66,7 +66,7 @@ static void draw_queries(struct labels *q, const struct labels *l, const struct 
 /* Enters a workload's labels with every contestant. */
 static void enter(struct workload *w)
 {
-    if (strap_layout(w->table, WORDS, w->store, BYTES) != pack(DONE, 0, 0, 0, 0))
+    if (strap_layout(w->table, WORDS, w->store, BYTES) != pack(STRAP_DONE, 0, 0, 0, 0))
         fail("layout refused");
     w->map = map_new();
     w->btree = btree_new();
@@ -74,7 +74,7 @@ static void enter(struct workload *w)
         const uint8_t *x = w->labels.at[i].bytes;
         size_t n = w->labels.at[i].len;
         uint64_t said = strap_insert(w->table, WORDS, w->store, BYTES, x, n, value_at(i));
-        if (kind_of(said) != UPDATED || slot_of(said) != i + 1)
+        if (strap_kind_of(said) != STRAP_UPDATED || strap_slot_of(said) != i + 1)
             fail("insert refused");
         memcpy(w->entries[i].label, x, WIDTH);
         w->entries[i].len = (uint16_t)n;

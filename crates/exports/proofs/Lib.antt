@@ -1,1 +1,1 @@
-pub mod PackedLaws
+pub mod GivenLaws

@@ -1,9 +1,7 @@
 -- An answer packed in one 64-bit number, for callers that take no enum.
-use mathlib.Core.List.{List}
 use mathlib.Core.Path.{_≡_}
-use Prim.Native.Nat.{ℕ, _+_, _*_, _%_}
+use Prim.Native.Nat.{ℕ, _+_, _*_, _/_, _%_, _<_}
 use Rattle.types.specs.Answers.{Answer, found, absent, updated, listed, done, refused}
-use Rattle.tables.specs.Outcomes.{Outcome}
 
 -- From the lowest bits: 4 of kind, 12 of places, 16 of visits, then 16 and 16.
 -- A number too large for its bits is cut to them.
@@ -23,8 +21,20 @@ packed (listed count) = parts 5 0 0 count 0
 packed done = parts 4 0 0 0 0
 packed (refused number) = parts 0 0 0 number 0
 
--- A call that may change the table and the store, its answer packed
-pub record Packs (outcome : Outcome) (given : ℕ) (words bytes : List ℕ) : Type 0 where
-  pub answer : given ≡ packed (outcome .answer)
-  pub table : words ≡ outcome .memory .table
-  pub store : bytes ≡ outcome .memory .store
+-- The kind 6: the view's part, where it begins in the store and how long it is.
+abbrev pub packedPart : (start len : ℕ) → ℕ
+packedPart start len = parts 6 0 0 start len
+
+-- what a caller reads by shifting and masking, as in `include/strap_index.h`
+pub record Unpacks (answer kind places visits one other : ℕ) : Type 0 where
+  pub kind-read : answer % 16 ≡ kind
+  pub places-read : answer / 16 % 4096 ≡ places
+  pub visits-read : answer / 65536 % 65536 ≡ visits
+  pub one-read : answer / 4294967296 % 65536 ≡ one
+  pub other-read : answer / 281474976710656 % 65536 ≡ other
+
+-- The claim: numbers that fit their bits are read back.
+abbrev pub PartsUnpack : Type 0
+PartsUnpack =
+    (kind places visits one other : ℕ) → kind < 16 → places < 4096 → visits < 65536 → one < 65536 → other < 65536
+    → Unpacks (parts kind places visits one other) kind places visits one other

@@ -1,8 +1,9 @@
--- `exports::packed_search` meets its contract: it packs the answer case by case.
-use Rattle.exports.proofs.PackedLaws.{found-packed, absent-packed, unsearched-packed}
+-- `packs::packed_search` meets its contract: it packs the answer case by case.
+use Rattle.types.specs.Answers.{searchSays}
+use Rattle.packs.proofs.PackedLaws.{said-packed}
 use borrow.Author.Needs.{needs}
-use Rattle.exports.proofs.packed_search.Statement.{statement}
-use Rattle.exports.proofs.packed_search.Tie as tie
+use Rattle.packs.proofs.packed_search.Statement.{statement}
+use Rattle.packs.proofs.packed_search.Tie as tie
 
 enum-known-said : tie.Need-enum-known-said
 enum-known-said c = search needs
@@ -22,20 +23,17 @@ packed-requires-2 c κs = search needs
 enum-known-said-3 : tie.Need-enum-known-said-3
 enum-known-said-3 c = search needs
 
-number-of-requires : tie.Need-number-of-requires
-number-of-requires c κs = search needs
-
-packed-requires-3 : tie.Need-packed-requires-3
-packed-requires-3 c κs = search needs
+packed-refusal-requires : tie.Need-packed-refusal-requires
+packed-refusal-requires c κs = search needs
 
 returns : tie.Need-returns
-returns c = search found-packed
+returns c = search (said-packed searchSays)
 
 returns-2 : tie.Need-returns-2
-returns-2 c = search absent-packed
+returns-2 c = search (said-packed searchSays)
 
 returns-3 : tie.Need-returns-3
-returns-3 c = search unsearched-packed
+returns-3 c = search (said-packed searchSays)
 
 pub packed-search-spec : {M : Type 1} → statement M
 packed-search-spec =
@@ -47,8 +45,7 @@ packed-search-spec =
     enum-known-said-2
     packed-requires-2
     enum-known-said-3
-    number-of-requires
-    packed-requires-3
+    packed-refusal-requires
     returns
     returns-2
     returns-3)

@@ -1,0 +1,104 @@
+/* The strap label index for C99 and C++: the eight calls of the proved static library `exports`.
+ *
+ * Build the library with `rt staticlib exports`, and link target/staticlib/libexports.a (x86-64 Linux).
+ *
+ * A lent part (table, store, label, list) passes as its pointer and its length in elements. Any length and any content
+ * is taken: a call answers, or refuses by a number below; a refused call has changed nothing. The contracts stand in
+ * crates/exports/src/lib.rt, and crates/packs/specs/Packed.antt defines the packing.
+ *
+ * What is asked of a caller, since no proof reaches past the library:
+ *   - each pointer is not null, is aligned for its type, and reaches as many elements as its length says, all of them
+ *     initialised;
+ *   - the parts lent to one call do not overlap;
+ *   - they live through the call, and nothing else writes them, or reads a part without const, until it returns.
+ * No call keeps a pointer, takes memory of its own or waits.
+ */
+#ifndef STRAP_INDEX_H
+#define STRAP_INDEX_H
+
+#include <stddef.h>
+#include <stdint.h>
+
+/* Sizes: labels held at most, bytes of a label at most, words of a table, bytes of a store. */
+enum { STRAP_SLOTS = 512, STRAP_WIDTH = 64, STRAP_WORDS = 4100, STRAP_BYTES = 32768 };
+
+/* An answer is one number, from its lowest bits: 4 of kind, 12 of places, 16 of visits, then 16 and 16, `one` and
+ * `other` below. What a kind does not name is 0. */
+enum strap_kind {
+    STRAP_REFUSED = 0, /* one: the refusal's number */
+    STRAP_FOUND = 1,   /* places, visits; one: the label's slot; other: its value */
+    STRAP_ABSENT = 2,  /* places, visits */
+    STRAP_UPDATED = 3, /* places, visits of the call's search; one: the slot taken or freed */
+    STRAP_DONE = 4,    /* nothing more */
+    STRAP_LISTED = 5,  /* one: how many slots were written */
+    STRAP_VIEWED = 6   /* one: where in the store the label begins; other: its length */
+};
+
+/* Why a call is refused; of those that apply, the first in this order. */
+enum strap_refusal {
+    STRAP_WRONG_TABLE = 1,  /* table not 4,100 words: all calls */
+    STRAP_WRONG_STORE = 2,  /* store not 32,768 bytes: all calls */
+    STRAP_EMPTY_LABEL = 3,  /* label of length 0: search, insert, delete */
+    STRAP_LONG_LABEL = 4,   /* label longer than 64 bytes: search, insert, delete */
+    STRAP_WRONG_SLOT = 11,  /* slot 0 or above 512, or its length word is 0 or above 64: the view's two calls */
+    STRAP_BROKEN_WALK = 5,  /* the walk met a link or a row that cannot be: search */
+    STRAP_NOT_SOUND = 6,    /* table and store are not sound: insert, delete, check, listing */
+    STRAP_ALREADY_HELD = 7, /* the label is held already: insert */
+    STRAP_NOT_HELD = 8,     /* the label is not held: delete */
+    STRAP_FULL = 9,         /* 512 labels are held: insert */
+    STRAP_SHORT_LIST = 10   /* list shorter than the labels held: listing */
+};
+
+/* ---- the parts of an answer */
+
+static inline unsigned strap_kind_of(uint64_t answer) { return (unsigned)(answer & 15); }
+static inline unsigned strap_places_of(uint64_t answer) { return (unsigned)(answer >> 4 & 4095); }
+static inline unsigned strap_visits_of(uint64_t answer) { return (unsigned)(answer >> 16 & 65535); }
+static inline unsigned strap_one_of(uint64_t answer) { return (unsigned)(answer >> 32 & 65535); }
+static inline unsigned strap_other_of(uint64_t answer) { return (unsigned)(answer >> 48 & 65535); }
+
+/* by the kind: refused; found or updated; found; listed; viewed */
+static inline unsigned strap_refusal_of(uint64_t answer) { return strap_one_of(answer); }
+static inline unsigned strap_slot_of(uint64_t answer) { return strap_one_of(answer); }
+static inline unsigned strap_value_of(uint64_t answer) { return strap_other_of(answer); }
+static inline unsigned strap_count_of(uint64_t answer) { return strap_one_of(answer); }
+static inline unsigned strap_start_of(uint64_t answer) { return strap_one_of(answer); }
+static inline unsigned strap_length_of(uint64_t answer) { return strap_other_of(answer); }
+
+/* ---- the calls; each may answer STRAP_REFUSED, and else what stands above it */
+
+#ifdef __cplusplus
+extern "C" {
+#endif
+
+/* STRAP_DONE: every word and byte is 0, an empty table. */
+uint64_t strap_layout(uint16_t *table, size_t words, uint8_t *store, size_t bytes);
+
+/* STRAP_FOUND or STRAP_ABSENT. */
+uint64_t strap_search(const uint16_t *table, size_t words, const uint8_t *store, size_t bytes, const uint8_t *label,
+                      size_t n);
+
+/* STRAP_UPDATED. */
+uint64_t strap_insert(uint16_t *table, size_t words, uint8_t *store, size_t bytes, const uint8_t *label, size_t n,
+                      uint16_t value);
+
+/* STRAP_UPDATED. */
+uint64_t strap_delete(uint16_t *table, size_t words, uint8_t *store, size_t bytes, const uint8_t *label, size_t n);
+
+/* STRAP_DONE: table and store are sound. */
+uint64_t strap_check(const uint16_t *table, size_t words, const uint8_t *store, size_t bytes);
+
+/* STRAP_LISTED: the slots stand in the list in ascending label order; later words of it stay. */
+uint64_t strap_listing(const uint16_t *table, size_t words, const uint8_t *store, size_t bytes, uint16_t *list,
+                       size_t room);
+
+/* STRAP_DONE: the slot's label can be viewed. */
+uint64_t strap_view_check(const uint16_t *table, size_t words, const uint8_t *store, size_t bytes, size_t slot);
+
+/* STRAP_VIEWED: the slot's label is the part of the lent store from `start` on, `length` bytes long. */
+uint64_t strap_view(const uint16_t *table, size_t words, const uint8_t *store, size_t bytes, size_t slot);
+
+#ifdef __cplusplus
+}
+#endif
+#endif
