@@ -17,9 +17,9 @@ use Rattle.trees.proofs.Views.{both-true}
 use Rattle.tables.specs.Words.{highMark, rowAt, partAt}
 use Rattle.tables.specs.Sound.{allZero, zeroBesidesLeft, unusedSlots}
 use Rattle.words.specs.Limits.{SizesFit}
+use Rattle.nodechecks.specs.Nodes.{freedRow}
 use Rattle.checks.specs.Check.{checkChain}
 use Rattle.checks.specs.Fits.{ChainFits}
-use Rattle.checks.specs.Parts.{freedRow}
 
 -- ---- the free chain
 
@@ -44,20 +44,20 @@ module _ (limits : Limits) (table store : List ℕ) where
   chain-stray n k e = rw (e, checkChain)
 
 -- the walk of a chain of count slots from a link has come to a slot, with so many left
-module _ (limits : Limits) (table store : List ℕ) (count link left slot : ℕ)
-    (so : checkChain limits table store left slot ≡ checkChain limits table store count link) where
+module _ (limits : Limits) (table store : List ℕ) (count link remaining slot : ℕ)
+    (so : checkChain limits table store remaining slot ≡ checkChain limits table store count link) where
   -- none is left
-  pub chain-done : left ≤ 0 → eqb slot 0 ≡ checkChain limits table store count link
+  pub chain-done : remaining ≤ 0 → eqb slot 0 ≡ checkChain limits table store count link
   unfolding checkChain
-  chain-done h = let none : left ≡ 0 = omega arith in rw none at so
+  chain-done h = let none : remaining ≡ 0 = omega arith in rw none at so
 
-  module _ (more : 0 < left) where
-    next : checkChain limits table store (suc (left - 1)) slot ≡ checkChain limits table store count link
-    next = let one-more : left ≡ suc (left - 1) = omega arith in rw one-more at so
+  module _ (more : 0 < remaining) where
+    next : checkChain limits table store (suc (remaining - 1)) slot ≡ checkChain limits table store count link
+    next = let one-more : remaining ≡ suc (remaining - 1) = omega arith in rw one-more at so
 
     -- the chain ends too soon
     pub chain-ended : slot < 1 → false ≡ checkChain limits table store count link
-    chain-ended h = sym (chain-stray limits table store (left - 1) slot (rw (lt-leb 1 slot h))) ∙ next
+    chain-ended h = sym (chain-stray limits table store (remaining - 1) slot (rw (lt-leb 1 slot h))) ∙ next
 
     -- the link is out of range
     pub chain-outside : (high : ℕ) → ChainFits limits table store high → 1 ≤ slot → high < slot
@@ -66,13 +66,13 @@ module _ (limits : Limits) (table store : List ℕ) (count link left slot : ℕ)
         let above : highMark table < slot = omega arith in
         let stray : leb 1 slot && leb slot (highMark table) ≡ false =
         rw (le-leb 1 slot p, lt-leb slot (highMark table) above) in
-        sym (chain-stray limits table store (left - 1) slot stray) ∙ next
+        sym (chain-stray limits table store (remaining - 1) slot stray) ∙ next
 
     module _ (row : Row) (t : Bool) (high : ℕ) (fits : ChainFits limits table store high)
         (low : 1 ≤ slot) (below : slot ≤ high) (read : row ≡ rowAt table slot)
         (tested : t ≡ freedRow limits store slot row) where
-      step : t && checkChain limits table store (left - 1) (row .left) ≡ checkChain limits table store count link
-      step = rw (tested, read) (sym (chain-step limits table store (left - 1) slot low (omega arith)) ∙ next)
+      step : t && checkChain limits table store (remaining - 1) (row .left) ≡ checkChain limits table store count link
+      step = rw (tested, read) (sym (chain-step limits table store (remaining - 1) slot low (omega arith)) ∙ next)
 
       -- the slot is not as freed
       pub chain-broken : t ≡ false → false ≡ checkChain limits table store count link
@@ -80,7 +80,7 @@ module _ (limits : Limits) (table store : List ℕ) (count link left slot : ℕ)
 
       -- the slot is as freed
       pub chain-on : t ≡ true
-          → checkChain limits table store (left - 1) (row .left) ≡ checkChain limits table store count link
+          → checkChain limits table store (remaining - 1) (row .left) ≡ checkChain limits table store count link
       chain-on e = rw e at step
 
 -- ---- the unused rest

@@ -11,8 +11,8 @@ use native.Mathlib.Nat.{one-le-pow}
 use lib.Dec.{ltb}
 use Rattle.types.specs.declared.Limits.{Limits}
 use Rattle.tables.specs.Words.{rowAt}
+use Rattle.nodechecks.specs.Nodes.{fineBetween}
 use Rattle.checks.specs.Check.{over, checkTree}
-use Rattle.checks.specs.Parts.{fineBetween}
 use Rattle.checks.specs.Fits.{Small}
 use Rattle.checks.specs.declared.Subtree.{Subtree}
 use Rattle.checks.specs.declared.Subtree.the-variants.{Unsound, Sound}
@@ -74,28 +74,29 @@ module _ (limits : Limits) (table store : List ℕ) where
       (sons n (suc k) below above) (small-sons n (suc k) below above left right))
 
 -- the same at a link that is not 0, where some height remains
-pub tree-node : (limits : Limits) (table store : List ℕ) (left link below above : ℕ) → (link ≡ 0 → ⊥) → (left ≡ 0 → ⊥)
-    → checkTree limits table store left link below above
+pub tree-node : (limits : Limits) (table store : List ℕ) (remaining link below above : ℕ)
+    → (link ≡ 0 → ⊥) → (remaining ≡ 0 → ⊥)
+    → checkTree limits table store remaining link below above
     ≡ found (ltb (limits .slots) link) (fineBetween limits table store link below above)
-    (sons limits table store (left - 1) link below above)
-tree-node limits table store left zero below above some deep = absurd (some refl)
+    (sons limits table store (remaining - 1) link below above)
+tree-node limits table store remaining zero below above some deep = absurd (some refl)
 tree-node limits table store zero (suc k) below above some deep = absurd (deep refl)
 tree-node limits table store (suc n) (suc k) below above some deep =
     let less : suc n - 1 ≡ n = omega arith in
     tree-step limits table store n k below above ∙ rw less
 
-module _ (limits : Limits) (table store : List ℕ) (left link below above : ℕ) where
+module _ (limits : Limits) (table store : List ℕ) (remaining link below above : ℕ) where
   -- at link 0 the walk finds the empty tree
-  pub tree-none : link ≡ 0 → Sound 0 0 ≡ checkTree limits table store left link below above
+  pub tree-none : link ≡ 0 → Sound 0 0 ≡ checkTree limits table store remaining link below above
   unfolding checkTree
-  tree-none e = rw e (go left)
+  tree-none e = rw e (go remaining)
     where
       go : (n : ℕ) → Sound 0 0 ≡ checkTree limits table store n 0 below above
       go zero = refl
       go (suc n) = refl
 
   -- with no height left the walk finds no node
-  pub tree-deep : (link ≡ 0 → ⊥) → left ≡ 0 → Unsound ≡ checkTree limits table store left link below above
+  pub tree-deep : (link ≡ 0 → ⊥) → remaining ≡ 0 → Unsound ≡ checkTree limits table store remaining link below above
   unfolding checkTree
   tree-deep n e = rw e (go link n)
     where

@@ -6,25 +6,26 @@ use Prim.Native.Nat.{ℕ, _≤_, _<_}
 use mathlib.Core.Path.{_≡_, refl, sym, _∙_}
 use mathlib.Core.List.{List}
 use mathlib.Core.Bool.{Bool, true, false}
-use native.Mathlib.Omega.{arith}
 use borrow.Author.Tests.{lt-ltb, le-ltb}
 use Rattle.types.specs.declared.Limits.{Limits}
 use Rattle.types.specs.declared.Row.{Row}
 use Rattle.labels.specs.Neighbours.{Neighbour}
+use Rattle.trees.proofs.Views.{both-true}
+use Rattle.trees.proofs.Passing.{false-not-true}
 use Rattle.tables.specs.Words.{rowAt}
-use Rattle.checks.specs.Check.{nodeFine}
-use Rattle.checks.specs.Parts.{usedRow, bothWhen, fineGaps, visitedBy, visited}
-use Rattle.checks.specs.declared.Gaps.{Gaps}
-use Rattle.checks.specs.declared.Gaps.the-variants.{Broken, Both}
+use Rattle.gaps.specs.declared.Gaps.{Gaps}
+use Rattle.gaps.specs.declared.Gaps.the-variants.{Broken, Both}
+use Rattle.nodechecks.specs.Nodes.{nodeFine, usedRow, bothWhen, fineGaps}
+use Rattle.nodechecks.proofs.RowLaws.{used-short}
+use Rattle.checks.specs.Visits.{testedBy, nodeTested}
 use Rattle.checks.specs.declared.Node.the-variants.{Wrong, Fine}
 use Rattle.checks.specs.declared.Subtree.{Subtree}
 use Rattle.checks.specs.declared.Subtree.the-variants.{Unsound}
-use Rattle.checks.proofs.PartLaws.{and-left, used-short}
 use Rattle.checks.proofs.TreeLaws.{found}
 
 -- a visit that finds the node wrong
 pub wrong-found : (outside fine : Bool) (i j : ℕ) (row : Row) (s : Subtree)
-    → visitedBy outside (bothWhen fine i j) row ≡ Wrong → Unsound ≡ found outside fine s
+    → testedBy outside (bothWhen fine i j) row ≡ Wrong → Unsound ≡ found outside fine s
 wrong-found true fine i j row s e = refl
 wrong-found false true i j row s e = cc
 wrong-found false false i j row s e = refl
@@ -42,11 +43,11 @@ pub record Passed (outside fine : Bool) (i j : ℕ) (row : Row) (smaller larger 
 -- a node that is wrong is not fine
 wrong-not-fine : {A : Type 0} {smaller larger balance lower upper : ℕ} → Wrong ≡ Fine smaller larger balance lower upper
     → A
-wrong-not-fine e = let z : _≡_ {A = ℕ} 0 1 = cc in absurd (omega arith)
+wrong-not-fine e = false-not-true cc
 
 -- a visit that finds the node fine
 pub fine-found : (outside fine : Bool) (i j : ℕ) (row : Row) (smaller larger balance lower upper : ℕ)
-    → visitedBy outside (bothWhen fine i j) row ≡ Fine smaller larger balance lower upper
+    → testedBy outside (bothWhen fine i j) row ≡ Fine smaller larger balance lower upper
     → Passed outside fine i j row smaller larger balance lower upper
 fine-found true fine i j row x y z p q e = wrong-not-fine e
 fine-found false true i j row x y z p q e =
@@ -59,23 +60,23 @@ module _ (limits : Limits) (table store : List ℕ) where
       → rowAt table k .len ≤ limits .width
   unfolding nodeFine usedRow
   node-short k p s e =
-      used-short limits store k (rowAt table k) (and-left (usedRow limits store k (rowAt table k)) _ e)
+      used-short limits store k (rowAt table k) (both-true (usedRow limits store k (rowAt table k)) _ .0 e .0)
 
 module _ (limits : Limits) (table store : List ℕ) (k below above : ℕ) where
   -- the slot is out of range
-  pub visit-outside : limits .slots < k → Wrong ≡ visited limits table store k below above
-  unfolding visited
+  pub visit-outside : limits .slots < k → Wrong ≡ nodeTested limits table store k below above
+  unfolding nodeTested
   visit-outside h = rw (lt-ltb _ _ h)
 
   module _ (row : Row) (read : row ≡ rowAt table k) (inside : k ≤ limits .slots) (both : Gaps)
       (tested : both ≡ fineGaps limits table store k below above) where
     -- the node's test fails
-    pub visit-wrong : both ≡ Broken → Wrong ≡ visited limits table store k below above
-    unfolding visited
+    pub visit-wrong : both ≡ Broken → Wrong ≡ nodeTested limits table store k below above
+    unfolding nodeTested
     visit-wrong f = rw (le-ltb _ _ inside, sym tested ∙ f)
 
     -- the node's test passes
     pub visit-fine : (p q : ℕ) → both ≡ Both p q
-        → Fine (row .left) (row .right) (row .balance) p q ≡ visited limits table store k below above
-    unfolding visited
+        → Fine (row .left) (row .right) (row .balance) p q ≡ nodeTested limits table store k below above
+    unfolding nodeTested
     visit-fine p q e = rw (le-ltb _ _ inside, sym tested ∙ e, read)

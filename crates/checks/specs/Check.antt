@@ -5,42 +5,13 @@ use mathlib.Core.Bool.{Bool, true, false, _&&_, cond}
 use Prim.Native.Nat.{ℕ, zero, suc, _+_, _-_, max}
 use lib.Dec.{eqb, ltb, leb}
 use Rattle.types.specs.declared.Limits.{Limits}
-use Rattle.labels.specs.Labels.{compareLabels}
-use Rattle.labels.specs.Neighbours.{Neighbour, none-below, held, none-above}
-use Rattle.trees.specs.Valid.{isSmaller}
-use Rattle.tables.specs.Words.{rootLink, labelsHeld, firstFree, highMark, rowAt, partAt, entryAt}
-use Rattle.tables.specs.Prefix.{placeWithin, sideWithin, balanceOf}
-use Rattle.tables.specs.Sound.{allZero, usedSlot, zeroBesidesLeft, unusedSlots}
+use Rattle.tables.specs.Words.{rootLink, labelsHeld, firstFree, highMark, rowAt, partAt}
+use Rattle.tables.specs.Prefix.{balanceOf}
+use Rattle.tables.specs.Sound.{allZero, zeroBesidesLeft, unusedSlots}
+use Rattle.nodechecks.specs.Nodes.{fineBetween}
 use Rattle.checks.specs.declared.Subtree.{Subtree}
 use Rattle.checks.specs.declared.Subtree.the-variants.{Unsound, Sound}
-
--- the neighbours in two slots, missing where the slot is 0
-abbrev pub belowIn : Limits → (table store : List ℕ) → ℕ → Neighbour
-belowIn limits table store zero = none-below
-belowIn limits table store (suc k) = held (entryAt limits table store (suc k) .label)
-
-abbrev pub aboveIn : Limits → (table store : List ℕ) → ℕ → Neighbour
-aboveIn limits table store zero = none-above
-aboveIn limits table store (suc k) = held (entryAt limits table store (suc k) .label)
-
--- whether a neighbour lies before another
-abbrev pub isBefore : Neighbour → Neighbour → Bool
-isBefore none-below none-below = false
-isBefore none-below (held y) = true
-isBefore none-below none-above = true
-isBefore (held x) none-below = false
-isBefore (held x) (held y) = isSmaller (compareLabels x y)
-isBefore (held x) none-above = true
-isBefore none-above b = false
-
--- the node in slot k, between the neighbours p and s: its words and bytes, the order, its place and side
-unfoldable pub nodeFine : Limits → (table store : List ℕ) → ℕ → Neighbour → Neighbour → Bool
-nodeFine limits table store k p s =
-    usedSlot limits table store k
-    && (isBefore p (held (entryAt limits table store k .label))
-    && (isBefore (held (entryAt limits table store k .label)) s
-    && (eqb (rowAt table k .place) (placeWithin p (entryAt limits table store k .label) s)
-    && eqb (rowAt table k .side) (sideWithin p (entryAt limits table store k .label) s))))
+pub use Rattle.gaps.specs.Windows.{belowIn, aboveIn}
 
 -- a node over its sons: the height rule, and the true balance
 unfoldable pub over : (balance : ℕ) → Subtree → Subtree → Subtree
@@ -49,21 +20,20 @@ over balance (Sound h c) Unsound = Unsound
 over balance (Sound h c) (Sound k d) =
     cond (leb h (k + 1) && (leb k (h + 1) && eqb balance (balanceOf h k))) (Sound (max h k + 1) (c + d + 1)) Unsound
 
--- the subtree at a link, at most left nodes deep, between the nodes in the slots below and above
-unfoldable pub checkTree : Limits → (table store : List ℕ) → (left link below above : ℕ) → Subtree
+-- the subtree at a link, at most remaining nodes deep, between the nodes in the slots below and above
+unfoldable pub checkTree : Limits → (table store : List ℕ) → (remaining link below above : ℕ) → Subtree
 checkTree limits table store zero zero below above = Sound 0 0
 checkTree limits table store zero (suc k) below above = Unsound
-checkTree limits table store (suc left) zero below above = Sound 0 0
-checkTree limits table store (suc left) (suc k) below above =
+checkTree limits table store (suc remaining) zero below above = Sound 0 0
+checkTree limits table store (suc remaining) (suc k) below above =
     elim (ltb (limits .slots) (suc k)) [
       | true ↦ Unsound
-      | false ↦ elim (nodeFine limits table store (suc k) (belowIn limits table store below)
-          (aboveIn limits table store above)) [
-            | true ↦ over (rowAt table (suc k) .balance)
-                (checkTree limits table store left (rowAt table (suc k) .left) below (suc k))
-                (checkTree limits table store left (rowAt table (suc k) .right) (suc k) above)
-            | false ↦ Unsound
-          ]
+      | false ↦ elim (fineBetween limits table store (suc k) below above) [
+        | true ↦ over (rowAt table (suc k) .balance)
+            (checkTree limits table store remaining (rowAt table (suc k) .left) below (suc k))
+            (checkTree limits table store remaining (rowAt table (suc k) .right) (suc k) above)
+        | false ↦ Unsound
+      ]
     ]
 
 -- the free chain from a link is exactly so many slots long, all up to the high mark

@@ -1,3 +1,3 @@
 pub mod Check
 pub mod Fits
-pub mod Parts
+pub mod Visits

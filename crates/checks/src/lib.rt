@@ -1,8 +1,8 @@
-// The soundness test of a table and its store: whether every word and byte is as a list of calls could leave it.
+// The soundness test of a table and its store: all words and bytes are as laid out, the nodes number the labels held,
+// labels ascend, every node keeps the height rule and has its true balance, place and side, and the free chain holds
+// exactly the other slots up to the high mark.
 // It changes nothing, and ends at the first word, byte or node that is not as it must be.
-pub mod nodes;
 pub mod walks;
-pub mod zeros;
 
 use types::Limits;
 ghost use mathlib.Core.Path.{_≡_};
@@ -13,18 +13,6 @@ ghost use Rattle.checks.specs.Check.{countIs, soundByWalks};
 pub enum Subtree {
     Unsound,
     Sound { height: usize, count: usize },
-}
-
-// How two labels lie that are to ascend: wrongly, or at their difference place, 0 where one of them is missing.
-pub enum Gap {
-    Wrong,
-    Place(usize),
-}
-
-// How a label lies between its neighbours: not in order, or its difference places with both.
-pub enum Gaps {
-    Broken,
-    Both { lower: usize, upper: usize },
 }
 
 // What the test of a node finds: it is not as it must be, or its links, its balance word and its difference places.

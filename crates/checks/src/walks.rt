@@ -1,8 +1,8 @@
 // The walks of the soundness test: over the tree, each node between the slots of its nearest smaller
 // and larger node above, along the free chain, and over the unused rest.
-use crate::Gaps;
 use crate::Node;
 use crate::Subtree;
+use gaps::Gaps;
 use types::Limits;
 ghost use mathlib.Core.Path.{_≡_};
 ghost use Rattle.tables.specs.Prefix.{balanceOf};
@@ -10,7 +10,7 @@ ghost use Rattle.tables.specs.Sound.{unusedSlots};
 ghost use Rattle.words.specs.Limits.{SizesFit};
 ghost use Rattle.checks.specs.Check.{over, checkTree, checkChain};
 ghost use Rattle.checks.specs.Fits.{SumsFit, SonsFit, VisitFits, WalkFits, ChainFits};
-ghost use Rattle.checks.specs.Parts.{visited};
+ghost use Rattle.checks.specs.Visits.{nodeTested};
 
 // The balance word over sons of two heights.
 fn balance_of(left: usize, right: usize) -> u16
@@ -40,7 +40,7 @@ fn over_sound(balance: u16, h: usize, c: usize, k: usize, d: usize) -> Subtree
         return Subtree::Unsound;
     }
     Subtree::Sound {
-        height: crate::nodes::larger(h, k) + 1,
+        height: gaps::larger(h, k) + 1,
         count: c + d + 1,
     }
 }
@@ -67,13 +67,13 @@ fn visit(
     apart: usize,
 ) -> Node
     requires { ⌜ VisitFits limits (now table) (now store) slot below above apart ⌝ }
-    ensures { λ r. ⌜ r ≡ visited limits (now (table .entry)) (now (store .entry)) slot below above ⌝ }
+    ensures { λ r. ⌜ r ≡ nodeTested limits (now (table .entry)) (now (store .entry)) slot below above ⌝ }
 {
     if limits.slots < slot {
         return Node::Wrong;
     }
     let row = words::read_row(table, slot);
-    let both = crate::nodes::node_gaps(limits, table, store, slot, row, below, above, apart);
+    let both = nodechecks::node_gaps(limits, table, store, slot, row, below, above, apart);
     let Gaps::Both { lower, upper } = both else {
         return Node::Wrong;
     };
@@ -86,21 +86,21 @@ fn visit(
     }
 }
 
-// The subtree at a link, at most `left` nodes deep, between the nodes in the slots `below` and `above`, 0 for none,
-// whose difference place is `apart`, 0 where one is missing.
+// The subtree at a link, at most `remaining` nodes deep, between the nodes in the slots `below` and `above`, 0 for
+// none, whose difference place is `apart`, 0 where one is missing.
 // It ends at the first node that is not as it must be, and makes no call for a link 0.
 pub fn check_tree(
     limits: Limits,
     table: &[u16],
     store: &[u8],
-    left: usize,
+    remaining: usize,
     link: usize,
     below: usize,
     above: usize,
     apart: usize,
 ) -> Subtree
-    requires { ⌜ WalkFits limits (now table) (now store) left below above apart ⌝ }
-    ensures { λ r. ⌜ r ≡ checkTree limits (now (table .entry)) (now (store .entry)) left link below above ⌝ }
+    requires { ⌜ WalkFits limits (now table) (now store) remaining below above apart ⌝ }
+    ensures { λ r. ⌜ r ≡ checkTree limits (now (table .entry)) (now (store .entry)) remaining link below above ⌝ }
 {
     if link == 0 {
         return Subtree::Sound {
@@ -108,7 +108,7 @@ pub fn check_tree(
             count: 0,
         };
     }
-    if left == 0 {
+    if remaining == 0 {
         return Subtree::Unsound;
     }
     let node = visit(limits, table, store, link, below, above, apart);
@@ -126,17 +126,44 @@ pub fn check_tree(
         if larger == 0 {
             return over_sound(balance, 0, 0, 0, 0);
         }
-        let only = check_tree(limits, table, store, left - 1, larger, link, above, upper);
+        let only = check_tree(
+            limits,
+            table,
+            store,
+            remaining - 1,
+            larger,
+            link,
+            above,
+            upper,
+        );
         return over_left(balance, 0, 0, only);
     }
-    let low = check_tree(limits, table, store, left - 1, smaller, below, link, lower);
+    let low = check_tree(
+        limits,
+        table,
+        store,
+        remaining - 1,
+        smaller,
+        below,
+        link,
+        lower,
+    );
     let Subtree::Sound { height, count } = low else {
         return Subtree::Unsound;
     };
     if larger == 0 {
         return over_sound(balance, height, count, 0, 0);
     }
-    let high = check_tree(limits, table, store, left - 1, larger, link, above, upper);
+    let high = check_tree(
+        limits,
+        table,
+        store,
+        remaining - 1,
+        larger,
+        link,
+        above,
+        upper,
+    );
     over_left(balance, height, count, high)
 }
 
@@ -152,9 +179,9 @@ pub fn check_chain(
     requires { ⌜ ChainFits limits (now table) (now store) high ⌝ }
     ensures { λ r. ⌜ r ≡ checkChain limits (now (table .entry)) (now (store .entry)) count link ⌝ }
 {
-    let mut left = count;
+    let mut remaining = count;
     let mut slot = link;
-    while 0 < left {
+    while 0 < remaining {
         if slot < 1 {
             return false;
         }
@@ -162,11 +189,11 @@ pub fn check_chain(
             return false;
         }
         let row = words::read_row(table, slot);
-        if !crate::nodes::freed_row(limits, store, slot, row) {
+        if !nodechecks::freed_row(limits, store, slot, row) {
             return false;
         }
         slot = row.left as usize;
-        left -= 1;
+        remaining -= 1;
     }
     slot == 0
 }
@@ -179,8 +206,8 @@ pub fn unused_slots(limits: Limits, table: &[u16], store: &[u8], high: usize) ->
     if limits.slots < high {
         return false;
     }
-    if !crate::zeros::words_zero(table, 4 + 8 * high) {
+    if !zeros::words_zero(table, 4 + 8 * high) {
         return false;
     }
-    crate::zeros::bytes_zero(store, limits.width * high)
+    zeros::bytes_zero(store, limits.width * high)
 }

@@ -1,57 +1,31 @@
 -- The comparison of two labels, by runs over the places from an index.
--- `compare-equal`: equal numbers leave it to the further places.
--- `unlike-smaller`, `unlike-larger`: the order of different bytes, from a test of their numbers.
+-- `rest-start`: at the start all is left.
 -- `one-unlike`, `one-alike`: a run over one place.  `run-short`, `run-both`: two runs in turn are one.
 -- `stops-from`, `passes-from`, `ends-from`: where a loop's run stops short, leaves the rest, or a label ends.
 -- `from-end`, `from-stop`, `from-on`: the whole comparison, by its first place.
-use Prim.Native.Nat.{ℕ, suc, _+_, _-_, _≤_, _<_, min, compare, Ordering}
-use mathlib.Core.Path.{_≡_, refl, sym, _∙_}
-use mathlib.Core.Logic.{_≢_}
-use mathlib.Core.Bool.{Bool, true, false, not, cond, true≢false}
+use Prim.Native.Nat.{ℕ, suc, _+_, _-_, _≤_, _<_, min, compare}
+use mathlib.Core.Path.{_≡_, sym, _∙_}
+use mathlib.Core.Bool.{Bool, true, false, cond}
 use native.Mathlib.Numerals.{add-one}
 use native.Mathlib.Omega.{arith}
-use lib.Dec.{ltb, leb, eqb}
+use lib.Dec.{ltb, leb}
 use lib.ListN.{length, getD, drop, drop-of-length-le}
 use lib.Seq.{drop-cons}
-use borrow.Author.Tests.{lt-ltb, le-ltb, eq-eqb, ne-eqb, leb-true}
+use borrow.Author.Tests.{lt-ltb, le-ltb, leb-true}
 use Rattle.labels.specs.Labels.{Label, Comparison}
 use Rattle.labels.specs.Labels.{numberOf, compareNumbers, compareAt, compareFrom}
-use Rattle.labels.proofs.Numbers.{Ordered, is-lt, is-eq, is-gt, ordered, Ltb, lt-yes, lt-no, ltb-view}
-use Rattle.compares.specs.declared.Order.{Order}
-use Rattle.compares.specs.declared.Order.the-variants.{Smaller, Same, Larger}
+use Rattle.labels.proofs.Numbers.{ordered, Ltb, lt-yes, lt-no, ltb-view}
+use Rattle.orders.specs.Orders.{comparisonBy, differ, unlike, atEnd}
+use Rattle.orders.specs.declared.Order.{Order}
+use Rattle.orders.specs.declared.Order.the-variants.{Smaller, Same, Larger}
+use Rattle.orders.proofs.OrderLaws.{compare-unlike, compare-equal}
+use Rattle.compares.specs.Compares.{rest, restAfter, HavePlaces}
 use Rattle.compares.specs.declared.Run.{Run}
-use Rattle.compares.specs.Compares.{comparisonBy, differ, unlike, atEnd, rest, restAfter, HavePlaces}
 
 -- at the start all is left
 pub rest-start : (d : ℕ) (x y : Label) → 1 ≤ d → rest x y (d - 1) ≡ compareFrom d x y
 unfolding rest compareFrom
 rest-start d x y positive = let e : suc (d - 1) ≡ d = omega arith in rw e
-
--- what the comparison of two different numbers gives
-compare-unlike : {m n : ℕ} {o : Ordering} (i : ℕ) (further : Comparison) → Ordered m n o → not (eqb m n) ≡ true
-    → compareNumbers o i further ≡ comparisonBy (cond (ltb m n) Smaller Larger) i
-compare-unlike {m} {n} i further (is-lt less) apart = rw (lt-ltb m n less)
-compare-unlike {m} {n} i further (is-eq equal) apart = absurd (true≢false (sym (rw (eq-eqb m n equal) at apart)))
-compare-unlike {m} {n} i further (is-gt more) apart = let beyond : n ≤ m = omega arith in rw (le-ltb m n beyond)
-
--- what the comparison of two equal numbers leaves
-pub compare-equal : {m n : ℕ} {o : Ordering} (i : ℕ) (further : Comparison) → Ordered m n o → not (eqb m n) ≡ false
-    → compareNumbers o i further ≡ further
-compare-equal {m} {n} i further (is-lt less) alike =
-    let apart : m ≢ n = λ e. omega arith in absurd (true≢false (rw (ne-eqb m n apart) at alike))
-compare-equal i further (is-eq equal) alike = refl
-compare-equal {m} {n} i further (is-gt more) alike =
-    let apart : m ≢ n = λ e. omega arith in absurd (true≢false (rw (ne-eqb m n apart) at alike))
-
--- the order of different bytes, from a test of their numbers m and n
-module _ (a b m n : ℕ) (em : m ≡ numberOf a) (en : n ≡ numberOf b) where
-  pub unlike-smaller : m < n → Smaller ≡ unlike a b
-  unfolding unlike
-  unlike-smaller less = rw (← em, ← en, lt-ltb m n less)
-
-  pub unlike-larger : n ≤ m → Larger ≡ unlike a b
-  unfolding unlike
-  unlike-larger more = rw (← em, ← en, le-ltb m n more)
 
 module _ (x y : Label) (i : ℕ) where
   -- what is left after both bytes at index i

@@ -1,19 +1,11 @@
 // The comparison of two labels from a place on, by the numbers that their bytes stand for. `compare` reads the byte at
-// each place once, in order, and none after the place at which it ends; the comparison in `eights` reads further.
-pub mod eights;
-
+// each place once, in order, and none after the place at which it ends. The crate `eights` has one that reads further.
+use orders::Order;
 ghost use mathlib.Core.Path.{_≡_};
 ghost use Prim.Native.Nat.{_+_, _≤_, min};
-ghost use Rattle.labels.specs.Labels.{numberOf, compareFrom};
-ghost use Rattle.compares.specs.Compares.{comparisonOf, differ, unlike, atEnd, rest, restAfter};
+ghost use Rattle.labels.specs.Labels.{compareFrom};
+ghost use Rattle.compares.specs.Compares.{comparisonOf, rest, restAfter};
 ghost use Rattle.compares.specs.Compares.{StartsWithin, EndsWithin, EndsAt, HavePlaces};
-
-// How the first of two labels lies to the second.
-pub enum Order {
-    Smaller,
-    Same,
-    Larger,
-}
 
 // The order of two labels, and the place at which their comparison ended: the difference place or the shared end's.
 pub struct Compared {
@@ -27,49 +19,11 @@ pub struct Run {
     pub same: usize,
 }
 
-// The number that stands for a byte at its place.
-pub fn number(byte: u8) -> u16
-    ensures { λ r. ⌜ r ≡ numberOf byte ⌝ }
-{
-    byte as u16 + 1
-}
-
 // The smaller of two lengths.
-fn shorter(one: usize, other: usize) -> usize
+pub fn shorter(one: usize, other: usize) -> usize
     ensures { λ r. ⌜ r ≡ min one other ⌝ }
 {
     if one < other { one } else { other }
-}
-
-// Whether two bytes stand for different numbers.
-fn differ(a: u8, b: u8) -> bool
-    ensures { λ r. ⌜ r ≡ differ a b ⌝ }
-{
-    number(a) != number(b)
-}
-
-// The order of labels with these different bytes at the difference place.
-fn unlike(a: u8, b: u8) -> Order
-    ensures { λ r. ⌜ r ≡ unlike a b ⌝ }
-{
-    if number(a) < number(b) {
-        Order::Smaller
-    } else {
-        Order::Larger
-    }
-}
-
-// The order of labels of lengths m and n that agree up to the index i, at which one of them ends.
-fn at_end(m: usize, n: usize, i: usize) -> Order
-    ensures { λ r. ⌜ r ≡ atEnd m n i ⌝ }
-{
-    if i < m {
-        return Order::Larger;
-    }
-    if i < n {
-        return Order::Smaller;
-    }
-    Order::Same
 }
 
 // The place at the index i.
@@ -80,8 +34,8 @@ fn one(x: &[u8], y: &[u8], i: usize) -> Run
 {
     let a = x[i];
     let b = y[i];
-    if differ(a, b) {
-        let order = unlike(a, b);
+    if orders::differ(a, b) {
+        let order = orders::unlike(a, b);
         return Run { order, same: 0 };
     }
     Run {
@@ -123,7 +77,7 @@ fn three(x: &[u8], y: &[u8], i: usize) -> Run
 }
 
 // How x lies to y by the places after the index from, one by one; the shorter label ends at `end`.
-fn by_one(x: &[u8], y: &[u8], from: usize, end: usize) -> Compared
+pub fn by_one(x: &[u8], y: &[u8], from: usize, end: usize) -> Compared
     requires { ⌜ EndsAt (now x) (now y) from end ⌝ }
     ensures { λ r. ⌜ comparisonOf r ≡ rest (now (x .entry)) (now (y .entry)) from ⌝ }
     ensures { λ r. ⌜ EndsWithin (from + 1) (now (y .entry)) (r .place) ⌝ }
@@ -138,7 +92,7 @@ fn by_one(x: &[u8], y: &[u8], from: usize, end: usize) -> Compared
         }
         i += 1;
     }
-    let order = at_end(x.len(), y.len(), i);
+    let order = orders::at_end(x.len(), y.len(), i);
     let place = i + 1;
     Compared { order, place }
 }
@@ -171,7 +125,7 @@ pub fn compare(x: &[u8], y: &[u8], d: usize) -> Compared
     let first = d - 1;
     let end = shorter(x.len(), y.len());
     if end <= first {
-        let order = at_end(x.len(), y.len(), first);
+        let order = orders::at_end(x.len(), y.len(), first);
         return Compared { order, place: d };
     }
     let run = one(x, y, first);

@@ -8,7 +8,7 @@ use native.Mathlib.Omega.{arith}
 use lib.ListN.{replicate, length-replicate}
 use Rattle.types.specs.declared.Row.{Row}
 use Rattle.types.specs.Sizes.{hub, tableLength, storeLength}
-use Rattle.types.specs.Answers.{Answer, found, absent, updated, refused}
+use Rattle.types.specs.Answers.{Answer, found, absent, updated, listed, done, refused}
 use Rattle.labels.specs.Labels.{Label, numberOf, compareLabels, compareFrom, differencePlace}
 use Rattle.trees.specs.Plain.{Call, insert, delete}
 use Rattle.trees.proofs.Sizes.{hub-depth}
@@ -16,7 +16,7 @@ use Rattle.tables.specs.Words.{labelsHeld, rowAt, partAt, labelAt}
 use Rattle.tables.specs.Written.{Memory, writtenTable, writtenStore}
 use Rattle.tables.specs.Steps.{isBad, searchSteps}
 use Rattle.tables.specs.Sound.{wordsAndBytes, counted, soundAs, sound, stateOf}
-use Rattle.tables.specs.Outcomes.{Outcome, searchOutcome, layoutOutcome, updateOutcome}
+use Rattle.tables.specs.Outcomes.{Outcome, searchOutcome, layoutOutcome, updateOutcome, listingOutcome}
 use Rattle.tables.specs.Cases.{a, b, c, three, laidOut}
 use Rattle.tables.specs.Claims.{LabelFits}
 use Rattle.demands.specs.Counts.{afterList}
@@ -85,6 +85,10 @@ pub record Shown : Type 0 where
   pub none-out : next [] (delete (a ∷ [])) .answer ≡ refused 8
   pub one-out : next onlyA (delete (a ∷ [])) .answer ≡ updated 1 1 2
   pub lower-out : next three (delete (a ∷ b ∷ [])) .answer ≡ updated 1 2 4
+  -- a layout, and listings into a list of one word
+  pub laid-out : layoutOutcome hub (replicate (tableLength hub) 1) (replicate (storeLength hub) 1) .answer ≡ done
+  pub none-listed : listingOutcome hub (after [] .table) (after [] .store) (0 ∷ []) .answer ≡ listed 0
+  pub one-listed : listingOutcome hub (after onlyA .table) (after onlyA .store) (0 ∷ []) .answer ≡ listed 1
   -- the labels held
   pub held-fresh : labelsHeld (after [] .table) ≡ 0
   pub held-first : labelsHeld (next [] (insert (a ∷ []) 5) .memory .table) ≡ 1
@@ -103,7 +107,7 @@ pub shown : Shown
 unfolding
     after lastNumbers numberOf compareLabels compareFrom differencePlace rowAt partAt labelAt writtenTable
     writtenStore isBad searchSteps wordsAndBytes counted soundAs sound stateOf searchOutcome layoutOutcome
-    updateOutcome
+    updateOutcome listingOutcome
 shown = record {
   none-held = refl;
   one-held = refl;
@@ -115,6 +119,9 @@ shown = record {
   none-out = refl;
   one-out = refl;
   lower-out = refl;
+  laid-out = refl;
+  none-listed = refl;
+  one-listed = refl;
   held-fresh = refl;
   held-first = refl;
   held-one = refl;

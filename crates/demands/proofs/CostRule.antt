@@ -21,6 +21,7 @@ use Rattle.tables.specs.Outcomes.{Outcome, replyAnswer}
 use Rattle.tables.specs.Claims.{callOutcome, CallAgrees, CallsAgree, CostRule}
 use Rattle.demands.proofs.Searches.{search-of-written}
 use Rattle.demands.proofs.Outcomes.{search-outcome, update-outcome}
+use Rattle.demands.proofs.Found.{finds-held}
 use Rattle.demands.proofs.Fresh.{laid-out-is-fresh}
 
 -- A search leaves the plain tree's state.
@@ -58,6 +59,7 @@ module _ (limits : Limits) (deepest : Deepest (limits .slots) (limits .depth)) w
     pub call-agrees : (c : Call) → CallAgrees limits c (written limits s) s
     call-agrees c = record {
       search = λ fits. search-of-written limits deepest s valid (soughtBy c);
+      finds = finds-held limits deepest s valid (soughtBy c);
       answer = ap (λ (o : Outcome). o .answer) (call-outcome c);
       memory = ap (λ (o : Outcome). o .memory) (call-outcome c);
     }

@@ -8,6 +8,7 @@ use native.Mathlib.Omega.{arith}
 use lib.ListN.{length}
 use Rattle.types.specs.declared.Limits.{Limits}
 use Rattle.labels.specs.Labels.{Label}
+use Rattle.labels.proofs.Clashes.{clash}
 use Rattle.trees.specs.Trees.{Tree}
 use Rattle.trees.specs.Searches.{fullSearch}
 use Rattle.trees.specs.Plain.{State, fresh, Call, search, plainStep}
@@ -25,8 +26,8 @@ module _ (limits : Limits) (x : Label) (fits : LabelFits limits x) where
       let visits : visitsOf (searchSteps limits (m .table) (m .store) x) ≡ length (fullSearch x t .visited) =
       ap visitsOf (agrees .walk) in
       record {
-        whole = λ gone. let z : _≡_ {A = ℕ} 0 1 = cc (gone, agrees .walk) in omega arith;
-        visited = omega arith;
+        whole = λ gone. clash (cc (gone, agrees .walk));
+        few-visits = omega arith;
         examined = omega arith;
       }
 

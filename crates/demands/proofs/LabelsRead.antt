@@ -4,10 +4,10 @@
 use mathlib.Core.List.{_∷_, _++_, map, map-append}
 use mathlib.Core.Path.{_≡_, refl, sym, ap₂, _∙_}
 use Prim.Native.Nat.{ℕ}
-use native.Mathlib.Omega.{arith}
 use Rattle.types.specs.declared.Limits.{Limits}
 use Rattle.labels.specs.Labels.{Label, Comparison, smaller, same, larger, compareLabels}
 use Rattle.labels.specs.Neighbours.{Neighbour, held}
+use Rattle.labels.proofs.Clashes.{clash}
 use Rattle.trees.specs.Trees.{Entry, Tree, empty, node, labels, slots}
 use Rattle.trees.specs.Searches.{found, Search, searchBy, fullSearch}
 use Rattle.trees.proofs.Searched.{found-label}
@@ -45,7 +45,7 @@ module _ (limits : Limits) (m : Memory) where
     -- The node that a search finds has its label in its slot.
     found-in-slot : (p s : Neighbour) (t : Tree) → Represents limits (m .table) (m .store) p s t
         → FoundRead (fullSearch x t)
-    found-in-slot p s empty there e held-so = let z : _≡_ {A = ℕ} 0 1 = cc in absurd (omega arith)
+    found-in-slot p s empty there e held-so = clash cc
     found-in-slot p s (node l d r) (own, on-left, on-right) e held-so =
         found-at-node d (fullSearch x l) (fullSearch x r) (label-read own)
         (found-in-slot p (held (d .label)) l on-left) (found-in-slot (held (d .label)) s r on-right)

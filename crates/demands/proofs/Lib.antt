@@ -1,8 +1,9 @@
 pub mod Searches
 pub mod Outcomes
 pub mod Fresh
-pub mod CostRule
 pub mod MapSteps
+pub mod Found
+pub mod CostRule
 pub mod OnSound
 pub mod LabelsRead
 pub mod MapCalls
@@ -15,3 +16,4 @@ pub mod Computed
 pub mod CountsGiven
 pub mod RefutedSearches
 pub mod RefutedUpdates
+pub mod RefutedCalls

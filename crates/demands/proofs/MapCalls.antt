@@ -2,11 +2,11 @@
 -- search-looks-up: a search looks up. updates-map: an update inserts into the map, or removes from it.
 use mathlib.Core.Path.{_≡_, refl, sym, ap, _∙_}
 use Prim.Native.Nat.{ℕ}
-use native.Mathlib.Omega.{arith}
 use Rattle.types.specs.declared.Limits.{Limits}
 use Rattle.types.specs.Answers.{found as found-with}
 use Rattle.labels.specs.Labels.{Label}
 use Rattle.labels.specs.Neighbours.{none-below, none-above}
+use Rattle.labels.proofs.Clashes.{clash}
 use Rattle.trees.specs.Heights.{Deepest}
 use Rattle.trees.specs.Searches.{Held, absent, found, fullSearch}
 use Rattle.trees.specs.Plain.{State, Call, search, insert, delete, soughtBy}
@@ -81,7 +81,7 @@ module _ (limits : Limits) (deepest : Deepest (limits .slots) (limits .depth)) w
             → replyAnswer (afterSearch h s .reply) walk ≡ found-with k v visits places
             → labelIn limits (written limits s) k ≡ x
         slot-of-found k v visits places absent none-held says =
-            let z : _≡_ {A = ℕ} 0 1 = cc in absurd (omega arith)
+            clash cc
         slot-of-found k v visits places (found e) held-so says =
             let there : e .slot ≡ k = cc in
             rw there at (found-read limits (written limits s) x none-below none-above (s .tree)

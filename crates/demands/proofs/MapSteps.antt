@@ -14,6 +14,7 @@ use lib.ListN.{length}
 use borrow.Author.Tests.{ne-eqb, le-ltb, leb-true, leb-false}
 use Rattle.types.specs.Answers.{refused}
 use Rattle.labels.specs.Labels.{Label, Comparison, smaller, same, larger, compareLabels}
+use Rattle.labels.proofs.Clashes.{clash}
 use Rattle.trees.specs.Trees.{size, labels}
 use Rattle.trees.specs.Searches.{Held, absent, found, fullSearch}
 use Rattle.trees.specs.Plain.{State, Call, soughtBy, afterSearch, newEntry, insertIfRoom}
@@ -35,7 +36,7 @@ removal-of-missing x (p ∷ more) missing =
         → (lookup x more ≡ none → removal x more ≡ more)
         → removalBy c p more (removal x more) ≡ p ∷ more
     by-comparison (smaller i) none-here further = refl
-    by-comparison (same i) none-here further = let z : _≡_ {A = ℕ} 0 1 = cc in absurd (omega arith)
+    by-comparison (same i) none-here further = clash cc
     by-comparison (larger i) none-here further = ap (λ (rest : List Pair). p ∷ rest) (further none-here)
 
 -- A call with a label that fits is settled by what its search found.
@@ -53,8 +54,8 @@ module _ (s : State) (w : Walk) where
 
   -- A search is not refused.
   pub search-answered : (h : Held) (number : ℕ) → replyAnswer (afterSearch h s .reply) w ≡ refused number → ⊥
-  search-answered absent number no-answer = let z : _≡_ {A = ℕ} 0 1 = cc in omega arith
-  search-answered (found e) number no-answer = let z : _≡_ {A = ℕ} 0 1 = cc in omega arith
+  search-answered absent number no-answer = clash cc
+  search-answered (found e) number no-answer = clash cc
 
   module _ (capacity : ℕ) (x : Label) (v : ℕ) where
     -- what an insert says by what its search found

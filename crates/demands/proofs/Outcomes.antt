@@ -1,6 +1,7 @@
 -- The outcome of a call on a valid state written out is that of the plain tree's step.
 -- memory-passes, written-passes: memory of the right lengths, as a state written out, passes the first two lines of the
 -- table of refusals.
+-- answer-of-held: what a search finds is answered as the plain tree replies.
 -- search-outcome: a search answers as the plain tree replies, with the counts of its steps.
 -- update-outcome: so does an update, and it leaves the plain tree's state, written out.
 use mathlib.Core.List.{List, [], _∷_}
@@ -45,7 +46,7 @@ written-passes limits s below =
     (length-of-written-table limits s) (length-of-written-store limits s) below
 
 -- What a search finds is answered as the plain tree replies.
-answer-of-held : (h : Held) (w : Walk) (s : State)
+pub answer-of-held : (h : Held) (w : Walk) (s : State)
     → answerOf h (visitsOf w) (placesOf w) ≡ replyAnswer (afterSearch h s .reply) w
 answer-of-held absent w s = refl
 answer-of-held (found e) w s = refl

@@ -12,6 +12,7 @@ use native.Mathlib.Omega.{arith}
 use Rattle.types.specs.Sizes.{hub}
 use Rattle.types.specs.Answers.{Answer, absent, refused}
 use Rattle.labels.specs.Labels.{Label}
+use Rattle.labels.proofs.Clashes.{clash}
 use Rattle.trees.specs.Plain.{Call}
 use Rattle.tables.specs.Steps.{searchSteps}
 use Rattle.tables.specs.Cases.{a, b}
@@ -36,9 +37,7 @@ pub fixed-search-fails : (answer : Answer) (f : SearchVersion) → SearchesAnswe
 fixed-search-fails answer f fixed meets =
     let fixed-then = fixed (after [] .table) (after [] .store) (a ∷ []) (fair-one []) in
     let fixed-now = fixed (after onlyA .table) (after onlyA .store) (a ∷ []) (fair-one onlyA) in
-    let z : _≡_ {A = ℕ} 0 1 =
-    cc (answered f meets [] (a ∷ []), shown .none-held, answered f meets onlyA (a ∷ []), shown .one-held) in
-    omega arith
+    clash (cc (answered f meets [] (a ∷ []), shown .none-held, answered f meets onlyA (a ∷ []), shown .one-held))
 
 -- 'Absent' at once fails, with any counts.
 pub absent-always-fails : (v q : ℕ) → ¬ MeetsSearch (λ table store x. absent v q)
@@ -60,18 +59,15 @@ pub skipping-first-fails : (f : SearchVersion) → SkipsFirst f → ¬ MeetsSear
 skipping-first-fails f skips meets =
     let alike = skips (after onlyA .table) (after onlyA .store) (shown .held-one) a b []
     (fair-one onlyA) in
-    let z : _≡_ {A = ℕ} 0 1 =
-    cc (answered f meets onlyA (a ∷ []), shown .one-held, answered f meets onlyA (b ∷ []), shown .other-first) in
-    omega arith
+    clash (cc (answered f meets onlyA (a ∷ []), shown .one-held, answered f meets onlyA (b ∷ []), shown .other-first))
 
 -- A search that takes byte zero for the end fails: it can't tell "a" followed by a zero byte from "a".
 pub stopping-at-zero-fails : (f : SearchVersion) → StopsAtZero f → ¬ MeetsSearch f
 stopping-at-zero-fails f stops meets =
     let alike = stops (after onlyA .table) (after onlyA .store) (a ∷ []) (fair-one onlyA)
     (fair-two onlyA) in
-    let z : _≡_ {A = ℕ} 0 1 =
-    cc (answered f meets onlyA (a ∷ []), shown .one-held, answered f meets onlyA (a ∷ 0 ∷ []), shown .zero-after) in
-    omega arith
+    clash
+    (cc (answered f meets onlyA (a ∷ []), shown .one-held, answered f meets onlyA (a ∷ 0 ∷ []), shown .zero-after))
 
 -- A search that gives one fixed number for its visits, or for its places, fails.
 pub fixed-search-counts-fail : (k : Count) (n : ℕ) (f : SearchVersion)

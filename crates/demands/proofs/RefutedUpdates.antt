@@ -13,6 +13,7 @@ use native.Mathlib.Omega.{arith}
 use Rattle.types.specs.Sizes.{hub}
 use Rattle.types.specs.Answers.{Answer, updated}
 use Rattle.labels.specs.Labels.{Label}
+use Rattle.labels.proofs.Clashes.{clash}
 use Rattle.trees.specs.Plain.{Call, insert, delete, soughtBy}
 use Rattle.tables.specs.Words.{labelsHeld, rowAt}
 use Rattle.tables.specs.Written.{Memory}
@@ -44,30 +45,26 @@ module _ (f : UpdateVersion) (meets : MeetsUpdate f) where
 -- One fixed answer of inserts fails.
 pub fixed-insert-fails : (answer : Answer) (f : UpdateVersion) → InsertsAnswer answer f → ¬ MeetsUpdate f
 fixed-insert-fails answer f fixed meets =
-    let z : _≡_ {A = ℕ} 0 1 =
-    cc (
+    clash (cc (
       fixed (a ∷ []) 5 (after [] .table) (after [] .store) (fair-one []),
       reply f meets [] (insert (a ∷ []) 5),
       shown .first-in,
       fixed (a ∷ []) 5 (after onlyA .table) (after onlyA .store) (fair-one onlyA),
       reply f meets onlyA (insert (a ∷ []) 5),
       shown .in-again,
-    ) in
-    omega arith
+    ))
 
 -- One fixed answer of deletes fails.
 pub fixed-delete-fails : (answer : Answer) (f : UpdateVersion) → DeletesAnswer answer f → ¬ MeetsUpdate f
 fixed-delete-fails answer f fixed meets =
-    let z : _≡_ {A = ℕ} 0 1 =
-    cc (
+    clash (cc (
       fixed (a ∷ []) (after [] .table) (after [] .store) (fair-one []),
       reply f meets [] (delete (a ∷ [])),
       shown .none-out,
       fixed (a ∷ []) (after onlyA .table) (after onlyA .store) (fair-one onlyA),
       reply f meets onlyA (delete (a ∷ [])),
       shown .one-out,
-    ) in
-    omega arith
+    ))
 
 -- Constant refusal of inserts fails, by any number.
 pub refused-inserts-fail : (number : ℕ) (f : UpdateVersion) → InsertsRefused number f → ¬ MeetsUpdate f
@@ -75,8 +72,7 @@ refused-inserts-fail number f refuses meets =
     let none = shown .held-fresh in
     let refusal =
     refuses (a ∷ []) 5 (after [] .table) (after [] .store) (fair-one []) 0 0 (shown .none-held) (omega arith) in
-    let z : _≡_ {A = ℕ} 0 1 = cc (refusal, reply f meets [] (insert (a ∷ []) 5), shown .first-in) in
-    omega arith
+    clash (cc (refusal, reply f meets [] (insert (a ∷ []) 5), shown .first-in))
 
 -- 'Full' at once fails.
 pub full-at-once-fails : (f : UpdateVersion) → InsertsRefused 9 f → ¬ MeetsUpdate f
@@ -87,8 +83,7 @@ pub refused-deletes-fail : (number : ℕ) (f : UpdateVersion) → DeletesRefused
 refused-deletes-fail number f refuses meets =
     let refusal =
     refuses (a ∷ []) (after onlyA .table) (after onlyA .store) (fair-one onlyA) 1 5 1 2 (shown .one-held) in
-    let z : _≡_ {A = ℕ} 0 1 = cc (refusal, reply f meets onlyA (delete (a ∷ [])), shown .one-out) in
-    omega arith
+    clash (cc (refusal, reply f meets onlyA (delete (a ∷ [])), shown .one-out))
 
 -- 'Absent' at once fails.
 pub not-held-at-once-fails : (f : UpdateVersion) → DeletesRefused 8 f → ¬ MeetsUpdate f

@@ -20,7 +20,7 @@ afterList limits (c ∷ calls) m = afterList limits calls (callOutcome limits c 
 -- a walk that is not broken, visits at most so many nodes and examines at most so many places
 pub record Few (visits places : ℕ) (w : Walk) : Type 0 where
   pub whole : w ≡ broken → ⊥
-  pub visited : visitsOf w ≤ visits
+  pub few-visits : visitsOf w ≤ visits
   pub examined : placesOf w ≤ places
 
 -- The claim: so is the search of every call that follows any list of calls on what layout left.

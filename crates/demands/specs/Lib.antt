@@ -1,3 +1,4 @@
 pub mod Counts
 pub mod Trials
 pub mod UpdateTrials
+pub mod CallTrials

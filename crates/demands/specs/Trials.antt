@@ -72,12 +72,12 @@ abbrev pub countOf : Count → Walk → ℕ
 countOf k w = ofCounts k (visitsOf w) (placesOf w)
 
 -- an answer that gives the count n, or none
-abbrev pub Gives : Count → ℕ → Answer → Type 0
-Gives k n answer = (m : ℕ) → countIn k answer ≡ some m → m ≡ n
+abbrev pub CountGives : Count → ℕ → Answer → Type 0
+CountGives k n answer = (m : ℕ) → countIn k answer ≡ some m → m ≡ n
 
 -- "invented visits or places": one fixed number
 abbrev pub SearchesCount : Count → ℕ → SearchVersion → Type 0
-SearchesCount k n f = (table store : List ℕ) (x : Label) → Fair table store x → Gives k n (f table store x)
+SearchesCount k n f = (table store : List ℕ) (x : Label) → Fair table store x → CountGives k n (f table store x)
 
 -- "Starting a compare at d + 1": with one label held, whose place is 1, the sought label's first byte is not looked at
 abbrev pub SkipsFirst : SearchVersion → Type 0

@@ -11,7 +11,7 @@ use Rattle.tables.specs.Words.{rootLink, labelsHeld, rowAt, entryAt}
 use Rattle.tables.specs.Written.{Memory}
 use Rattle.tables.specs.Steps.{Step, go-left, go-right, stop, stepAt}
 use Rattle.tables.specs.Outcomes.{searchOutcome}
-use Rattle.demands.specs.Trials.{UpdateVersion, lent, Fair, Count, Gives}
+use Rattle.demands.specs.Trials.{UpdateVersion, lent, Fair, Count, CountGives}
 
 -- "one fixed answer": of inserts, and of deletes
 abbrev pub InsertsAnswer : Answer → UpdateVersion → Type 0
@@ -39,11 +39,11 @@ DeletesRefused number f =
 abbrev pub InsertsCount : Count → ℕ → UpdateVersion → Type 0
 InsertsCount k n f =
     (x : Label) (value : ℕ) (table store : List ℕ) → Fair table store x
-    → Gives k n (f (insert x value) table store .answer)
+    → CountGives k n (f (insert x value) table store .answer)
 
 abbrev pub DeletesCount : Count → ℕ → UpdateVersion → Type 0
 DeletesCount k n f =
-    (x : Label) (table store : List ℕ) → Fair table store x → Gives k n (f (delete x) table store .answer)
+    (x : Label) (table store : List ℕ) → Fair table store x → CountGives k n (f (delete x) table store .answer)
 
 -- "an idle insert": whatever it answers, the memory stays
 abbrev pub InsertsIdle : UpdateVersion → Type 0
@@ -67,15 +67,15 @@ numbersBy (go-left p s examined) here toLeft toRight = toLeft p s
 numbersBy (go-right p s examined) here toLeft toRight = toRight p s
 numbersBy (stop examined) here toLeft toRight = here
 
-abbrev pub numbersAt : (table store : List ℕ) → Label → (left link p s : ℕ) → Numbers
+abbrev pub numbersAt : (table store : List ℕ) → Label → (remaining link p s : ℕ) → Numbers
 numbersAt table store x zero link p s = record { p = p; s = s }
-numbersAt table store x (suc left) zero p s = record { p = p; s = s }
-numbersAt table store x (suc left) (suc k) p s =
+numbersAt table store x (suc remaining) zero p s = record { p = p; s = s }
+numbersAt table store x (suc remaining) (suc k) p s =
     numbersBy
     (stepAt x (entryAt hub table store (suc k) .label) (rowAt table (suc k) .side) (rowAt table (suc k) .place) p s)
     (record { p = p; s = s })
-    (numbersAt table store x left (rowAt table (suc k) .left))
-    (numbersAt table store x left (rowAt table (suc k) .right))
+    (numbersAt table store x remaining (rowAt table (suc k) .left))
+    (numbersAt table store x remaining (rowAt table (suc k) .right))
 
 unfoldable pub lastNumbers : (table store : List ℕ) → Label → Numbers
 lastNumbers table store x = numbersAt table store x (hub .depth) (rootLink table) 1 1

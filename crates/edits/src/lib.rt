@@ -3,40 +3,26 @@
 use types::Limits;
 use types::Refusal;
 use types::UpdateAnswer;
+use words::Early;
 ghost use mathlib.Core.Path.{_≡_};
 ghost use Rattle.types.specs.Answers.{updateSays};
 ghost use Rattle.tables.specs.Outcomes.{insertOutcome, deleteOutcome};
+ghost use Rattle.words.specs.Early.{earlySays};
 ghost use Rattle.words.specs.Limits.{LimitsFit};
 ghost use Rattle.views.specs.Given.{Gives};
-ghost use Rattle.edits.specs.Ready.{EditsFit, Ready, updateVerdict, verdictSays};
-
-// What the tests before an update say: none refuses, or the first that does.
-pub enum Early {
-    Pass,
-    Refused(Refusal),
-}
+ghost use Rattle.endings.specs.Ready.{EditsFit, Ready, updateVerdict};
 
 // The first refusal of an update, in the order of the table: lent memory, label, whole table.
 fn first_refusal(limits: Limits, table: &[u16], store: &[u8], label: &[u8]) -> Early
     requires { ⌜ LimitsFit limits ⌝ }
     ensures { λ r. ⌜
-        verdictSays r
+        earlySays r
         ≡ updateVerdict limits (now (table .entry)) (now (store .entry)) (now (label .entry)) ⌝ }
 {
-    let table_len = 4 + 8 * limits.slots;
-    let store_len = limits.slots * limits.width;
-    if table.len() != table_len {
-        return Early::Refused(Refusal::WrongTable);
-    }
-    if store.len() != store_len {
-        return Early::Refused(Refusal::WrongStore);
-    }
-    if label.len() == 0 {
-        return Early::Refused(Refusal::EmptyLabel);
-    }
-    if limits.width < label.len() {
-        return Early::Refused(Refusal::LongLabel);
-    }
+    let early = words::lengths::with_label(limits, table, store, label);
+    let Early::Pass = early else {
+        return early;
+    };
     if lists::is_sound(limits, table, store) {
         Early::Pass
     } else {
@@ -57,7 +43,7 @@ fn insert_ready(
         Gives (insertOutcome limits (now (table .entry)) (now (store .entry)) (now (label .entry)) value)
         (updateSays r) (now (table .exit)) (now (store .exit)) ⌝ }
 {
-    let trace = updates::tracing::trace(limits, table, store, label);
+    let trace = traces::tracing::trace(limits, table, store, label);
     if trace.found != 0 {
         return UpdateAnswer::Refused(Refusal::AlreadyHeld);
     }
@@ -80,7 +66,7 @@ fn delete_ready(limits: Limits, table: &mut [u16], store: &mut [u8], label: &[u8
         Gives (deleteOutcome limits (now (table .entry)) (now (store .entry)) (now (label .entry)))
         (updateSays r) (now (table .exit)) (now (store .exit)) ⌝ }
 {
-    let trace = updates::tracing::trace(limits, table, store, label);
+    let trace = traces::tracing::trace(limits, table, store, label);
     if trace.found == 0 {
         return UpdateAnswer::Refused(Refusal::NotHeld);
     }

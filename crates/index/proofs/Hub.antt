@@ -6,7 +6,7 @@ use Rattle.types.specs.declared.Limits.{Limits}
 use Rattle.types.specs.Sizes.{hub}
 use Rattle.trees.proofs.Sizes.{hub-depth}
 use Rattle.words.specs.Limits.{LimitsFit}
-use Rattle.edits.specs.Ready.{EditsFit}
+use Rattle.endings.specs.Ready.{EditsFit}
 
 -- The hub's limits fit machine words.
 pub at-hub : (limits : Limits) → limits ≡ hub → LimitsFit limits

@@ -1,6 +1,7 @@
 -- The slots at a link, and the list that they are written into.
 -- `slots-at-depth`, `slots-at-none`, `slots-above`, `slots-at-node`: the slots at a link, by the tests of the walk.
--- `slots-few`: at most 2 ^ left slots, less one. `filled-by-none`, `filled-by-node`: what the walk leaves in the list.
+-- `slots-few`: at most 2 ^ remaining slots, less one.
+-- `filled-by-none`, `filled-by-node`: what the walk leaves in the list.
 -- `sets-from-start`: stores from the list's start on put the slots before the list's later words.
 use mathlib.Core.List.{List, [], _∷_, _++_}
 use mathlib.Core.Bool.{Bool, true, false}
@@ -15,10 +16,8 @@ use lib.Seq.{sets, sets-eq}
 use borrow.Author.Tests.{lt-ltb, le-ltb}
 use Rattle.types.specs.declared.Limits.{Limits}
 use Rattle.types.specs.declared.Row.{Row}
-use Rattle.types.specs.Sizes.{tableLength}
 use Rattle.tables.specs.Words.{rowAt}
-use Rattle.words.specs.Limits.{LimitsFit}
-use Rattle.lists.specs.Listed.{slotsFrom, ListFits, Filled}
+use Rattle.lists.specs.Listed.{slotsFrom, ListFits, ListReady, Filled}
 
 -- two runs of fewer than n, with one more between them, or nothing
 few-or-none : (b : Bool) (xs ys : List ℕ) (k : ℕ) {n : ℕ} → length xs < n → length ys < n
@@ -27,43 +26,43 @@ few-or-none true xs ys k p q = omega arith
 few-or-none false xs ys k p q = omega (arith, length-append xs (k ∷ ys))
 
 module _ (limits : Limits) (table : List ℕ) where
-  pub slots-at-depth : (left link : ℕ) → left ≡ 0 → slotsFrom limits table left link ≡ []
+  pub slots-at-depth : (remaining link : ℕ) → remaining ≡ 0 → slotsFrom limits table remaining link ≡ []
   unfolding slotsFrom
   slots-at-depth zero link e = refl
-  slots-at-depth (suc left) link e = absurd (omega arith)
+  slots-at-depth (suc remaining) link e = absurd (omega arith)
 
-  pub slots-at-none : (left link : ℕ) → link ≡ 0 → slotsFrom limits table left link ≡ []
+  pub slots-at-none : (remaining link : ℕ) → link ≡ 0 → slotsFrom limits table remaining link ≡ []
   unfolding slotsFrom
   slots-at-none zero link e = refl
-  slots-at-none (suc left) zero e = refl
-  slots-at-none (suc left) (suc k) e = absurd (omega arith)
+  slots-at-none (suc remaining) zero e = refl
+  slots-at-none (suc remaining) (suc k) e = absurd (omega arith)
 
-  pub slots-above : (left link : ℕ) → limits .slots < link → slotsFrom limits table left link ≡ []
+  pub slots-above : (remaining link : ℕ) → limits .slots < link → slotsFrom limits table remaining link ≡ []
   unfolding slotsFrom
   slots-above zero link h = refl
-  slots-above (suc left) zero h = refl
-  slots-above (suc left) (suc k) h = rw (lt-ltb _ _ h, slotsFrom)
+  slots-above (suc remaining) zero h = refl
+  slots-above (suc remaining) (suc k) h = rw (lt-ltb _ _ h, slotsFrom)
 
-  pub slots-at-node : (left link : ℕ) → (left ≡ 0 → ⊥) → (link ≡ 0 → ⊥) → link ≤ limits .slots
-      → slotsFrom limits table left link
-      ≡ slotsFrom limits table (left - 1) (rowAt table link .left)
-      ++ (link ∷ slotsFrom limits table (left - 1) (rowAt table link .right))
+  pub slots-at-node : (remaining link : ℕ) → (remaining ≡ 0 → ⊥) → (link ≡ 0 → ⊥) → link ≤ limits .slots
+      → slotsFrom limits table remaining link
+      ≡ slotsFrom limits table (remaining - 1) (rowAt table link .left)
+      ++ (link ∷ slotsFrom limits table (remaining - 1) (rowAt table link .right))
   unfolding slotsFrom
   slots-at-node zero link deep some high = absurd (deep refl)
-  slots-at-node (suc left) zero deep some high = absurd (some refl)
-  slots-at-node (suc left) (suc k) deep some high =
-      let below : suc left - 1 ≡ left = omega arith in
+  slots-at-node (suc remaining) zero deep some high = absurd (some refl)
+  slots-at-node (suc remaining) (suc k) deep some high =
+      let below : suc remaining - 1 ≡ remaining = omega arith in
       rw (below, le-ltb _ _ high, slotsFrom)
 
-  pub slots-few : (left link : ℕ) → length (slotsFrom limits table left link) < 2 ^ left
+  pub slots-few : (remaining link : ℕ) → length (slotsFrom limits table remaining link) < 2 ^ remaining
   unfolding slotsFrom
   slots-few zero link = omega arith
-  slots-few (suc left) zero = rw two-pow-succ (omega (arith, slots-few left zero))
-  slots-few (suc left) (suc k) =
-      let near = slotsFrom limits table left (rowAt table (suc k) .left) in
-      let far = slotsFrom limits table left (rowAt table (suc k) .right) in
+  slots-few (suc remaining) zero = rw two-pow-succ (omega (arith, slots-few remaining zero))
+  slots-few (suc remaining) (suc k) =
+      let near = slotsFrom limits table remaining (rowAt table (suc k) .left) in
+      let far = slotsFrom limits table remaining (rowAt table (suc k) .right) in
       rw two-pow-succ
-      (few-or-none (ltb (limits .slots) (suc k)) near far (suc k) (slots-few left _) (slots-few left _))
+      (few-or-none (ltb (limits .slots) (suc k)) near far (suc k) (slots-few remaining _) (slots-few remaining _))
 
 -- stores of two runs, one after the other
 sets-append : (l : List ℕ) (at : ℕ) (xs ys : List ℕ)
@@ -76,49 +75,50 @@ pub filled-by-none : (slots before : List ℕ) (at : ℕ) → slots ≡ [] → F
 filled-by-none slots before at e = record { list = rw e; end = rw e (omega arith) }
 
 -- the walk from the root, from the list's start on, stays within the room
-pub fits-whole : (limits : Limits) (table : List ℕ) → LimitsFit limits → length table ≡ tableLength limits
-    → ListFits limits table 0 (limits .depth)
-fits-whole limits table fits words =
-    let room : 2 ^ limits .depth ≤ 2 ^ 64 = pow-le-pow-right (omega arith) (fits .depth) in
-    record { fit = fits; words = words; room = omega arith }
+pub fits-whole : (limits : Limits) (table : List ℕ) → ListReady limits table → ListFits limits table 0 (limits .depth)
+fits-whole limits table ready =
+    let room : 2 ^ limits .depth ≤ 2 ^ 64 = pow-le-pow-right (omega arith) (ready .fit .depth) in
+    record { fit = ready .fit; words = ready .words; room = omega arith }
 
 -- a son's walk stays within the room: the left son's from the same position,
 -- the right son's from the one after the node's
-module _ (limits : Limits) (table : List ℕ) (left at : ℕ)
-    (fits : ListFits limits table at left) (deep : left ≡ 0 → ⊥) where
-  halves : 2 ^ left ≡ 2 ^ (left - 1) + 2 ^ (left - 1)
-  halves = let over : left ≡ suc (left - 1) = omega arith in ap (λ (n : ℕ). 2 ^ n) over ∙ two-pow-succ (left - 1)
+module _ (limits : Limits) (table : List ℕ) (remaining at : ℕ)
+    (fits : ListFits limits table at remaining) (deep : remaining ≡ 0 → ⊥) where
+  halves : 2 ^ remaining ≡ 2 ^ (remaining - 1) + 2 ^ (remaining - 1)
+  halves =
+      let over : remaining ≡ suc (remaining - 1) = omega arith in
+      ap (λ (n : ℕ). 2 ^ n) over ∙ two-pow-succ (remaining - 1)
 
-  pub fits-near : ListFits limits table at (left - 1)
+  pub fits-near : ListFits limits table at (remaining - 1)
   fits-near = record { fit = fits .fit; words = fits .words; room = omega (arith, halves) }
 
   pub fits-far : (link middle : ℕ) (before between : List ℕ)
-      → Filled (slotsFrom limits table (left - 1) link) before at between middle
-      → ListFits limits table (middle + 1) (left - 1)
+      → Filled (slotsFrom limits table (remaining - 1) link) before at between middle
+      → ListFits limits table (middle + 1) (remaining - 1)
   fits-far link middle before between near =
-      let few = slots-few limits table (left - 1) link in
+      let few = slots-few limits table (remaining - 1) link in
       record { fit = fits .fit; words = fits .words; room = omega (arith, halves) }
 
   pub next-fits : (link middle : ℕ) (before between : List ℕ)
-      → Filled (slotsFrom limits table (left - 1) link) before at between middle → middle + 1 < 2 ^ 64
+      → Filled (slotsFrom limits table (remaining - 1) link) before at between middle → middle + 1 < 2 ^ 64
   next-fits link middle before between near =
       let far = fits-far link middle before between near in
-      let some : 1 ≤ 2 ^ (left - 1) = one-le-pow (left - 1) 2 (omega arith) in
+      let some : 1 ≤ 2 ^ (remaining - 1) = one-le-pow (remaining - 1) 2 (omega arith) in
       omega arith
 
 -- the left son's slots, the node's, and the right son's
-module _ (limits : Limits) (table : List ℕ) (left link : ℕ) (row : Row)
-    (deep : left ≡ 0 → ⊥) (some : link ≡ 0 → ⊥) (high : link ≤ limits .slots) (is-row : row ≡ rowAt table link)
+module _ (limits : Limits) (table : List ℕ) (remaining link : ℕ) (row : Row)
+    (deep : remaining ≡ 0 → ⊥) (some : link ≡ 0 → ⊥) (high : link ≤ limits .slots) (is-row : row ≡ rowAt table link)
     (before between stored after : List ℕ) (at middle next : ℕ) where
-  pub filled-by-node : Filled (slotsFrom limits table (left - 1) (row .left)) before at between middle
+  pub filled-by-node : Filled (slotsFrom limits table (remaining - 1) (row .left)) before at between middle
       → stored ≡ set between middle link
-      → Filled (slotsFrom limits table (left - 1) (row .right)) stored (middle + 1) after next
-      → Filled (slotsFrom limits table left link) before at after next
+      → Filled (slotsFrom limits table (remaining - 1) (row .right)) stored (middle + 1) after next
+      → Filled (slotsFrom limits table remaining link) before at after next
   filled-by-node near put far =
-      let xs = slotsFrom limits table (left - 1) (row .left) in
-      let ys = slotsFrom limits table (left - 1) (row .right) in
-      let all : slotsFrom limits table left link ≡ xs ++ (link ∷ ys) =
-      rw is-row (slots-at-node limits table left link deep some high) in
+      let xs = slotsFrom limits table (remaining - 1) (row .left) in
+      let ys = slotsFrom limits table (remaining - 1) (row .right) in
+      let all : slotsFrom limits table remaining link ≡ xs ++ (link ∷ ys) =
+      rw is-row (slots-at-node limits table remaining link deep some high) in
       let count = length-append xs (link ∷ ys) in
       record {
         list = far .list ∙ rw (all, put, near .list, add-one, near .end) (sym (sets-append before at xs (link ∷ ys)));

@@ -8,25 +8,44 @@ use lib.ListN.{length}
 use lib.Seq.{sets}
 use Rattle.types.specs.declared.Limits.{Limits}
 use Rattle.types.specs.Sizes.{tableLength}
-use Rattle.tables.specs.Words.{rowAt}
+use Rattle.tables.specs.Words.{rootLink, labelsHeld, rowAt}
+use Rattle.tables.specs.Outcomes.{Verdict, pass, ofMemory, ofTable, ofList, Listing, listingBy}
 use Rattle.words.specs.Limits.{LimitsFit}
 
--- the slots at a link, at most left nodes deep; a link above the slots gives none
-unfoldable pub slotsFrom : Limits → (table : List ℕ) → (left link : ℕ) → List ℕ
+-- the slots at a link, at most so many nodes deep; a link above the slots gives none
+unfoldable pub slotsFrom : Limits → (table : List ℕ) → (remaining link : ℕ) → List ℕ
 slotsFrom limits table zero link = []
-slotsFrom limits table (suc left) zero = []
-slotsFrom limits table (suc left) (suc k) =
+slotsFrom limits table (suc remaining) zero = []
+slotsFrom limits table (suc remaining) (suc k) =
     elim (ltb (limits .slots) (suc k)) [
       | true ↦ []
-      | false ↦ slotsFrom limits table left (rowAt table (suc k) .left)
-          ++ (suc k ∷ slotsFrom limits table left (rowAt table (suc k) .right))
+      | false ↦ slotsFrom limits table remaining (rowAt table (suc k) .left)
+          ++ (suc k ∷ slotsFrom limits table remaining (rowAt table (suc k) .right))
     ]
 
--- sizes that fit, and a position that stays a machine word over a tree left nodes high
-pub record ListFits (limits : Limits) (table : List ℕ) (at left : ℕ) : Type 0 where
+-- the slots of a table
+abbrev pub slotsListed : Limits → (table : List ℕ) → List ℕ
+slotsListed limits table = slotsFrom limits table (limits .depth) (rootLink table)
+
+-- the lines of the table of refusals for calls that test the whole table: lent memory, then soundness
+abbrev pub ofWhole : Limits → (table store : List ℕ) → Verdict → Verdict
+ofWhole limits table store below = ofMemory limits table store (ofTable limits table store below)
+
+-- what is listed past them: refused by the list's length, or the slots before the list's later words
+abbrev pub listingReady : Limits → (table list : List ℕ) → Listing
+listingReady limits table list = listingBy (ofList table list pass) list (slotsListed limits table)
+
+-- past them: sizes that fit, and as many slots as labels held
+pub record ListReady (limits : Limits) (table : List ℕ) : Type 0 where
   pub fit : LimitsFit limits
   pub words : length table ≡ tableLength limits
-  pub room : at + 2 ^ left ≤ 2 ^ 64
+  pub count : length (slotsListed limits table) ≡ labelsHeld table
+
+-- sizes that fit, and a position that stays a machine word over a tree so many nodes high
+pub record ListFits (limits : Limits) (table : List ℕ) (at remaining : ℕ) : Type 0 where
+  pub fit : LimitsFit limits
+  pub words : length table ≡ tableLength limits
+  pub room : at + 2 ^ remaining ≤ 2 ^ 64
 
 -- the slots stand in the list from a position on, and the next position follows them
 pub record Filled (slots before : List ℕ) (at : ℕ) (after : List ℕ) (next : ℕ) : Type 0 where

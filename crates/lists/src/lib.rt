@@ -4,14 +4,15 @@ use types::DoneAnswer;
 use types::Limits;
 use types::ListAnswer;
 use types::Refusal;
+use words::Early;
 ghost use mathlib.Core.Path.{_≡_};
-ghost use lib.ListN.{set};
 ghost use Rattle.types.specs.Answers.{doneSays, listSays};
 ghost use Rattle.tables.specs.Sound.{sound};
-ghost use Rattle.tables.specs.Outcomes.{checkOutcome, listingOutcome};
+ghost use Rattle.tables.specs.Outcomes.{pass, checkOutcome, listingOutcome};
+ghost use Rattle.words.specs.Early.{earlySays};
 ghost use Rattle.words.specs.Limits.{LimitsFit, SizesFit};
 ghost use Rattle.lists.specs.Given.{Lists};
-ghost use Rattle.lists.specs.Listed.{slotsFrom, ListFits, Filled};
+ghost use Rattle.lists.specs.Listed.{slotsFrom, ofWhole, listingReady, ListFits, ListReady, Filled};
 
 // Whether a table and its store are sound.
 pub fn is_sound(limits: Limits, table: &[u16], store: &[u8]) -> bool
@@ -21,49 +22,48 @@ pub fn is_sound(limits: Limits, table: &[u16], store: &[u8]) -> bool
     checks::sound_within(limits, table, store)
 }
 
+// The refusals of a whole table: by 1 and 2, or by 6 where it is not sound.
+fn whole_table(limits: Limits, table: &[u16], store: &[u8]) -> Early
+    requires { ⌜ LimitsFit limits ⌝ }
+    ensures { λ r. ⌜ earlySays r ≡ ofWhole limits (now (table .entry)) (now (store .entry)) pass ⌝ }
+{
+    let early = words::lengths::of_memory(limits, table, store);
+    let Early::Pass = early else {
+        return early;
+    };
+    if is_sound(limits, table, store) {
+        Early::Pass
+    } else {
+        Early::Refused(Refusal::NotSound)
+    }
+}
+
 // The check: done where the table is sound, else refused by 1, 2 or 6.
 pub fn check_within(limits: Limits, table: &[u16], store: &[u8]) -> DoneAnswer
     requires { ⌜ LimitsFit limits ⌝ }
     ensures { λ r. ⌜ doneSays r ≡ checkOutcome limits (now (table .entry)) (now (store .entry)) ⌝ }
 {
-    let table_len = 4 + 8 * limits.slots;
-    let store_len = limits.slots * limits.width;
-    if table.len() != table_len {
-        return DoneAnswer::Refused(Refusal::WrongTable);
-    }
-    if store.len() != store_len {
-        return DoneAnswer::Refused(Refusal::WrongStore);
-    }
-    if is_sound(limits, table, store) {
-        DoneAnswer::Done
-    } else {
-        DoneAnswer::Refused(Refusal::NotSound)
+    let early = whole_table(limits, table, store);
+    match early {
+        Early::Refused(refusal) => DoneAnswer::Refused(refusal),
+        Early::Pass => DoneAnswer::Done,
     }
 }
 
-// Stores a word; past the list's end nothing.
-pub fn put_word(list: &mut [u16], at: usize, word: u16)
-    ensures { λ _. ⌜ now (list .exit) ≡ set (now (list .entry)) at word ⌝ }
-{
-    if at < list.len() {
-        list[at] = word;
-    }
-}
-
-// Writes the slots at a link, at most `left` nodes deep, from a position of the list on, and gives the next position.
+// Writes the slots at a link, at most `remaining` nodes deep, from a position of the list on, and gives the next one.
 pub fn list_from(
     limits: Limits,
     table: &[u16],
     list: &mut [u16],
     at: usize,
     link: usize,
-    left: usize,
+    remaining: usize,
 ) -> usize
-    requires { ⌜ ListFits limits (now table) at left ⌝ }
+    requires { ⌜ ListFits limits (now table) at remaining ⌝ }
     ensures { λ r. ⌜
-        Filled (slotsFrom limits (now (table .entry)) left link) (now (list .entry)) at (now (list .exit)) r ⌝ }
+        Filled (slotsFrom limits (now (table .entry)) remaining link) (now (list .entry)) at (now (list .exit)) r ⌝ }
 {
-    if left == 0 {
+    if remaining == 0 {
         return at;
     }
     if link == 0 {
@@ -73,16 +73,30 @@ pub fn list_from(
         return at;
     }
     let row = words::read_row(table, link);
-    let middle = list_from(limits, table, list, at, row.left as usize, left - 1);
-    put_word(list, middle, link as u16);
+    let middle = list_from(limits, table, list, at, row.left as usize, remaining - 1);
+    words::total::set_word(list, middle, link as u16);
     list_from(
         limits,
         table,
         list,
         middle + 1,
         row.right as usize,
-        left - 1,
+        remaining - 1,
     )
+}
+
+// Lists the slots of a table that has as many as its labels held; refused by 10 where the list is shorter.
+fn list_ready(limits: Limits, table: &[u16], list: &mut [u16]) -> ListAnswer
+    requires { ⌜ ListReady limits (now table) ⌝ }
+    ensures { λ r. ⌜
+        Lists (listingReady limits (now (table .entry)) (now (list .entry))) (listSays r) (now (list .exit)) ⌝ }
+{
+    if list.len() < table[1] as usize {
+        return ListAnswer::Refused(Refusal::ShortList);
+    }
+    let root = table[0] as usize;
+    let count = list_from(limits, table, list, 0, root, limits.depth);
+    ListAnswer::Listed(count)
 }
 
 // Lists the slots of a sound table; refused by 1, 2, 6, or 10 where the list is shorter than the labels held.
@@ -93,21 +107,9 @@ pub fn listing_within(limits: Limits, table: &[u16], store: &[u8], list: &mut [u
         Lists (listingOutcome limits (now (table .entry)) (now (store .entry)) (now (list .entry)))
         (listSays r) (now (list .exit)) ⌝ }
 {
-    let table_len = 4 + 8 * limits.slots;
-    let store_len = limits.slots * limits.width;
-    if table.len() != table_len {
-        return ListAnswer::Refused(Refusal::WrongTable);
+    let early = whole_table(limits, table, store);
+    match early {
+        Early::Refused(refusal) => ListAnswer::Refused(refusal),
+        Early::Pass => list_ready(limits, table, list),
     }
-    if store.len() != store_len {
-        return ListAnswer::Refused(Refusal::WrongStore);
-    }
-    if !is_sound(limits, table, store) {
-        return ListAnswer::Refused(Refusal::NotSound);
-    }
-    if list.len() < table[1] as usize {
-        return ListAnswer::Refused(Refusal::ShortList);
-    }
-    let root = table[0] as usize;
-    let count = list_from(limits, table, list, 0, root, limits.depth);
-    ListAnswer::Listed(count)
 }

@@ -13,7 +13,7 @@ use Rattle.types.specs.declared.Limits.{Limits}
 use Rattle.types.specs.declared.Row.{Row}
 use Rattle.labels.specs.Labels.{Label, compareFrom}
 use Rattle.compares.specs.declared.Compared.{Compared}
-use Rattle.compares.specs.declared.Order.the-variants.{Smaller, Same, Larger}
+use Rattle.orders.specs.declared.Order.the-variants.{Smaller, Same, Larger}
 use Rattle.compares.specs.Compares.{comparisonOf}
 use Rattle.tables.specs.Words.{labelAt}
 use Rattle.tables.specs.Steps.{Step, stop, compareStep}

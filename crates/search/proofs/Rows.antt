@@ -20,13 +20,9 @@ use Rattle.tables.specs.Words.{rowAt}
 use Rattle.tables.specs.Steps.{isBad}
 use Rattle.words.specs.Rows.{HasRow}
 use Rattle.words.specs.Limits.{LimitsFit, SizesFit}
+use Rattle.words.proofs.FirstLines.{either-false}
 use Rattle.search.specs.Walks.{numberBefore, haltsAt}
 use Rattle.search.specs.Bounds.{GoodRow, AtRow, Live}
-
--- both parts of a test that failed
-or-false : (a b : Bool) → (a || b) ≡ false → (a ≡ false) × (b ≡ false)
-or-false true b e = absurd (true≢false e)
-or-false false b e = (refl, e)
 
 -- a test whose second part passes
 or-second : (a b : Bool) → b ≡ true → true ≡ (a || b)
@@ -96,10 +92,10 @@ good-row limits row fine =
     let far = ltb (row .len + 1) (row .place) in
     let unplaced = eqb (row .place) 0 in
     let long = ltb (limits .width) (row .len) in
-    let first = or-false (eqb (row .len) 0) (long || (unplaced || (far || sided))) fine in
-    let second = or-false long (unplaced || (far || sided)) (first .1) in
-    let third = or-false unplaced (far || sided) (second .1) in
-    let fourth = or-false far sided (third .1) in
+    let first = either-false (eqb (row .len) 0) (long || (unplaced || (far || sided))) fine in
+    let second = either-false long (unplaced || (far || sided)) (first .1) in
+    let third = either-false unplaced (far || sided) (second .1) in
+    let fourth = either-false far sided (third .1) in
     let some = eqb-false (row .len) 0 (first .0) in
     let low = eqb-false (row .place) 0 (third .0) in
     record {
@@ -131,51 +127,51 @@ module _ (limits : Limits) (link b : ℕ) (fit : LimitsFit limits) (prior : b �
   tested-row table words =
       let some = some-link in let e = prior-link in record { low = some; high = omega arith }
 
-module _ (limits : Limits) (table : List ℕ) (link left b : ℕ) (prior : b ≡ numberBefore link) where
+module _ (limits : Limits) (table : List ℕ) (link remaining b : ℕ) (prior : b ≡ numberBefore link) where
   -- an empty link, or one too high
-  pub halts-link : limits .slots ≤ b → true ≡ haltsAt limits table link left
+  pub halts-link : limits .slots ≤ b → true ≡ haltsAt limits table link remaining
   unfolding haltsAt numberBefore
   halts-link over = go link prior
     where
       go : (k : ℕ) → b ≡ numberBefore k
-          → true ≡ (eqb k 0 || (eqb left 0 || (ltb (limits .slots) k || isBad limits (rowAt table k))))
+          → true ≡ (eqb k 0 || (eqb remaining 0 || (ltb (limits .slots) k || isBad limits (rowAt table k))))
       go zero e = refl
       go (suc k) e =
           let some : suc k ≢ 0 = λ z. omega arith in
           let before = rw (ne-eqb (suc k) 0 some) at e in
           let above : limits .slots < suc k = omega arith in
-          rw (ne-eqb (suc k) 0 some, lt-ltb _ _ above) (or-second (eqb left 0) true refl)
+          rw (ne-eqb (suc k) 0 some, lt-ltb _ _ above) (or-second (eqb remaining 0) true refl)
 
   -- a node too many
-  pub halts-deep : left ≡ 0 → true ≡ haltsAt limits table link left
+  pub halts-deep : remaining ≡ 0 → true ≡ haltsAt limits table link remaining
   unfolding haltsAt
-  halts-deep none = rw (eq-eqb left 0 none) (or-second (eqb link 0) true refl)
+  halts-deep none = rw (eq-eqb remaining 0 none) (or-second (eqb link 0) true refl)
 
   -- a bad row
-  pub halts-row : (row : Row) (bad : Bool) → LimitsFit limits → b < limits .slots → left ≢ 0
-      → row ≡ rowAt table link → bad ≡ isBad limits row → bad ≡ haltsAt limits table link left
+  pub halts-row : (row : Row) (bad : Bool) → LimitsFit limits → b < limits .slots → remaining ≢ 0
+      → row ≡ rowAt table link → bad ≡ isBad limits row → bad ≡ haltsAt limits table link remaining
   unfolding haltsAt
   halts-row row bad fit early room read tested =
       let some = some-link limits link b fit prior early in
       let e = prior-link limits link b fit prior early in
       let apart : link ≢ 0 = λ z. omega arith in
       let high : link ≤ limits .slots = omega arith in
-      rw (ne-eqb link 0 apart, ne-eqb left 0 room, le-ltb _ _ high, ← read) tested
+      rw (ne-eqb link 0 apart, ne-eqb remaining 0 room, le-ltb _ _ high, ← read) tested
 
 -- what the whole test lets through
-module _ (limits : Limits) (table : List ℕ) (link left : ℕ) (tested : Bool)
-    (test : tested ≡ haltsAt limits table link left) (fine : tested ≡ false) where
+module _ (limits : Limits) (table : List ℕ) (link remaining : ℕ) (tested : Bool)
+    (test : tested ≡ haltsAt limits table link remaining) (fine : tested ≡ false) where
   -- it is a node, and so many are left to visit
-  pub live : Live limits table link left
+  pub live : Live limits table link remaining
   unfolding haltsAt
   live =
       let above = ltb (limits .slots) link in
       let bad = isBad limits (rowAt table link) in
-      let first = or-false (eqb link 0) (eqb left 0 || (above || bad)) (sym test ∙ fine) in
-      let second = or-false (eqb left 0) (above || bad) (first .1) in
-      let third = or-false above bad (second .1) in
+      let first = either-false (eqb link 0) (eqb remaining 0 || (above || bad)) (sym test ∙ fine) in
+      let second = either-false (eqb remaining 0) (above || bad) (first .1) in
+      let third = either-false above bad (second .1) in
       let some = eqb-false link 0 (first .0) in
-      let room = eqb-false left 0 (second .0) in
+      let room = eqb-false remaining 0 (second .0) in
       record {
         some = omega arith;
         high = ltb-false (limits .slots) link (third .0);

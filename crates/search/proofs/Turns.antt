@@ -1,6 +1,6 @@
 -- The step at one node, by its turn.
 -- `decide-smaller`, `decide-same`, `decide-larger`: the step after a comparison, by its order.
--- `compared-row`: the bytes compared are the label of the slot.
+-- `compared-row`, `row-inside`: the bytes compared are the label of the slot, which lies within the store.
 -- `turn-level`: the turn where the walk has reached the node's place.
 -- `row-left`, `row-right`, `row-compared`: the step at the node, by its turn.  `after-step`: the spot after it.
 use mathlib.Core.Path.{_≡_, refl, _∙_}
@@ -11,21 +11,24 @@ use Prim.Native.Nat.{compare·suc-zero}
 use native.Mathlib.Numerals.{add-one}
 use native.Mathlib.Omega.{arith}
 use lib.Dec.{eqb}
-use lib.ListN.{take, drop}
+use denote.Ref.{RefT}
 use borrow.Author.Tests.{lt-ltb, le-ltb}
 use Rattle.types.specs.declared.Limits.{Limits}
 use Rattle.types.specs.declared.Row.{Row}
 use Rattle.labels.specs.Labels.{Label, compareFrom}
 use Rattle.labels.proofs.Numbers.{Ordered, is-lt, is-eq, is-gt, ordered}
 use Rattle.compares.specs.declared.Compared.{Compared}
-use Rattle.compares.specs.declared.Order.the-variants.{Smaller, Same, Larger}
+use Rattle.orders.specs.declared.Order.the-variants.{Smaller, Same, Larger}
 use Rattle.compares.specs.Compares.{comparisonOf}
-use Rattle.tables.specs.Words.{labelAt, partStart}
+use Rattle.tables.specs.Words.{labelAt}
 use Rattle.tables.specs.Steps.{Step, go-left, go-right, stop, compareStep, predecessorStep, successorStep, stepAt}
 use Rattle.search.specs.declared.Spot.{Spot}
 use Rattle.search.specs.declared.Step as code
 use Rattle.search.specs.declared.Turn.{Turn}
 use Rattle.search.specs.declared.Turn.the-variants.{Left, Right, Compare}
+use Rattle.tables.proofs.Offsets.{part-within}
+use Rattle.words.specs.Parts.{LabelInside, Shows}
+use Rattle.search.specs.Bounds.{AtRow}
 use Rattle.search.specs.Walks.{reachedOn, turnBy, turnOf, rowStep, sonOf, spotAfter}
 
 -- the step after a comparison c that started at place d, by its order
@@ -42,14 +45,21 @@ module _ (p s d : ℕ) (c : Compared) where
   pub decide-larger : c .order ≡ Larger → go-right (c .place) s examined ≡ compareStep (comparisonOf c) d p s
   decide-larger e = rw (e, add-one (c .place))
 
--- a comparison with the bytes of the store is one with the slot's label
-pub compared-row : (limits : Limits) (store : List ℕ) (x : Label) (link : ℕ) (row : Row) (at : ℕ) (c : Compared)
-    → at ≡ partStart limits link
-    → comparisonOf c ≡ compareFrom (row .place) x (take (at + row .len - at) (drop at store))
-    → comparisonOf c ≡ compareFrom (row .place) x (labelAt limits store link (row .len))
-unfolding labelAt
-compared-row limits store x link row at c start found =
-    let e : at + row .len - at ≡ row .len = omega arith in rw (← start) (rw e at found)
+-- a comparison with what the store shows is one with the slot's label
+pub compared-row : (limits : Limits) (store held : RefT (List ℕ)) (x : Label) (link : ℕ) (row : Row) (c : Compared)
+    → Shows limits store link (row .len) held → comparisonOf c ≡ compareFrom (row .place) x (held .now)
+    → comparisonOf c ≡ compareFrom (row .place) x (labelAt limits (store .now) link (row .len))
+compared-row limits store held x link row c shows found = rw (shows .bytes) at found
+
+-- such a label lies within the store
+pub row-inside : (limits : Limits) (store : List ℕ) (link : ℕ) (row : Row) → AtRow limits store link row
+    → LabelInside limits store link (row .len)
+row-inside limits store link row at =
+    let low = at .slot .low in
+    let within = part-within (limits .width) (limits .slots) link low (at .slot .high) in
+    let short = at .good .short in
+    let bytes = at .bytes in
+    record { low = low; inside = omega arith }
 
 -- the turn by the order of P or S and the place
 abbrev turnOn : Ordering → Turn → Turn → Turn

@@ -38,10 +38,10 @@ pub record AtRow (limits : Limits) (store : List ℕ) (k : ℕ) (row : Row) : Ty
   pub good : GoodRow limits row
 
 -- a node to visit at a link, with so many nodes left to visit
-pub record Live (limits : Limits) (table : List ℕ) (link left : ℕ) : Type 0 where
+pub record Live (limits : Limits) (table : List ℕ) (link remaining : ℕ) : Type 0 where
   pub some : 1 ≤ link
   pub high : link ≤ limits .slots
-  pub room : 1 ≤ left
+  pub room : 1 ≤ remaining
   pub good : GoodRow limits (rowAt table link)
 
 -- a comparison that started at place d has ended

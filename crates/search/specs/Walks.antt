@@ -25,9 +25,9 @@ unfoldable pub numberBefore : ℕ → ℕ
 numberBefore n = cond (eqb n 0) 18446744073709551615 (n - 1)
 
 -- whether there is no node to visit at a link, with so many nodes left to visit: it is empty, or the walk is broken
-unfoldable pub haltsAt : Limits → (table : List ℕ) → (link left : ℕ) → Bool
-haltsAt limits table link left =
-    eqb link 0 || (eqb left 0 || (ltb (limits .slots) link || isBad limits (rowAt table link)))
+unfoldable pub haltsAt : Limits → (table : List ℕ) → (link remaining : ℕ) → Bool
+haltsAt limits table link remaining =
+    eqb link 0 || (eqb remaining 0 || (ltb (limits .slots) link || isBad limits (rowAt table link)))
 
 -- the number that a side goes by: P for predecessor, S for successor
 abbrev pub reachedOn : (side p s : ℕ) → ℕ
@@ -79,11 +79,13 @@ abbrev pub haltedAt : (link visits places : ℕ) → SearchAnswer
 haltedAt link visits places = cond (eqb link 0) (Absent visits places) (Refused BrokenWalk)
 
 -- the answer of a walk that has so many visits and places behind it
-abbrev pub counted : (visits places : ℕ) → Walk → Answer
-counted visits places broken = refused 5
-counted visits places (ended s more) = answerOf (s .result) (visits + length (s .visited)) (places + more)
+abbrev pub answerAfter : (visits places : ℕ) → Walk → Answer
+answerAfter visits places broken = refused 5
+answerAfter visits places (ended s more) = answerOf (s .result) (visits + length (s .visited)) (places + more)
 
 -- the answer of a walk that stands at a link, with so many nodes left to visit, P and S in an array, and places
-unfoldable pub answerFrom : Limits → (table store : List ℕ) → Label → (link left places : ℕ) → (ends : List ℕ) → Answer
-answerFrom limits table store x link left places ends =
-    counted (limits .depth - left) places (steps limits table store x left link (getD ends 0 0) (getD ends 1 0))
+unfoldable pub answerFrom :
+    Limits → (table store : List ℕ) → Label → (link remaining places : ℕ) → (ends : List ℕ) → Answer
+answerFrom limits table store x link remaining places ends =
+    answerAfter (limits .depth - remaining) places
+    (steps limits table store x remaining link (getD ends 0 0) (getD ends 1 0))

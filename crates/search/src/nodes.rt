@@ -4,18 +4,17 @@ use crate::Spot;
 use crate::Step;
 use crate::Turn;
 use compares::Compared;
-use compares::Order;
+use orders::Order;
 use types::Limits;
 use types::Row;
 ghost use mathlib.Core.Path.{_≡_};
-ghost use Prim.Native.Nat.{_+_, _≤_};
-ghost use Rattle.types.specs.Sizes.{storeLength};
+ghost use Prim.Native.Nat.{_≤_};
 ghost use Rattle.labels.specs.Labels.{compareFrom};
 ghost use Rattle.compares.specs.Compares.{comparisonOf};
-ghost use Rattle.tables.specs.Words.{partStart, labelAt};
+ghost use Rattle.tables.specs.Words.{labelAt};
 ghost use Rattle.tables.specs.Steps.{isBad, compareStep};
 ghost use Rattle.search.specs.Walks.{numberBefore, haltsAt, reachedOn, turnOf, stepOf, rowStep};
-ghost use Rattle.search.specs.Bounds.{AtSlot, AtRow, AtPlace, CanTest};
+ghost use Rattle.search.specs.Bounds.{AtRow, AtPlace, CanTest};
 
 // The number before a place or a link; before 0, which is neither, the largest of all.
 fn prior(number: usize) -> usize
@@ -38,14 +37,14 @@ fn bad_row(limits: Limits, row: Row) -> bool
 }
 
 // Whether there is no node to visit: the link is empty, or the walk is broken there, with so many nodes left to visit.
-pub fn halts(limits: Limits, table: &[u16], link: usize, left: usize) -> bool
+pub fn halts(limits: Limits, table: &[u16], link: usize, remaining: usize) -> bool
     requires { ⌜ CanTest limits (now table) ⌝ }
-    ensures { λ r. ⌜ r ≡ haltsAt limits (now (table .entry)) link left ⌝ }
+    ensures { λ r. ⌜ r ≡ haltsAt limits (now (table .entry)) link remaining ⌝ }
 {
     if limits.slots <= prior(link) {
         return true;
     }
-    if left == 0 {
+    if remaining == 0 {
         return true;
     }
     let row = words::read_row(table, link);
@@ -71,15 +70,6 @@ pub fn turn(side: usize, d: usize, reached: usize) -> Turn
     Turn::Compare
 }
 
-// The first byte of a slot's part of the store.
-fn part_start(limits: Limits, slot: usize) -> usize
-    requires { ⌜ AtSlot limits slot ⌝ }
-    ensures { λ r. ⌜ r ≡ partStart limits slot ⌝ }
-    ensures { λ r. ⌜ r + limits .width ≤ storeLength limits ⌝ }
-{
-    limits.width * (slot - 1)
-}
-
 // The comparison with the label of a node, from the node's place on.
 pub fn compare_row(limits: Limits, store: &[u8], label: &[u8], link: usize, row: Row) -> Compared
     requires { ⌜ AtRow limits (now store) link row ⌝ }
@@ -88,9 +78,8 @@ pub fn compare_row(limits: Limits, store: &[u8], label: &[u8], link: usize, row:
         ≡ compareFrom (row .place) (now (label .entry)) (labelAt limits (now (store .entry)) link (row .len)) ⌝ }
     ensures { λ r. ⌜ AtPlace (row .place) r ⌝ }
 {
-    let at = part_start(limits, link);
-    let end = at + row.len as usize;
-    compares::compare(label, &store[at..end], row.place as usize)
+    let held = words::parts::label_at(limits, store, link, row.len as usize);
+    compares::compare(label, held, row.place as usize)
 }
 
 // The step after a comparison that started at place d.

@@ -3,11 +3,12 @@ use crate::Spot;
 use crate::Step;
 use crate::Turn;
 use crate::nodes;
-use compares::Order;
+use orders::Order;
 use types::Limits;
 use types::Refusal;
 use types::Row;
 use types::SearchAnswer;
+use words::Early;
 ghost use mathlib.Core.Path.{_≡_};
 ghost use Rattle.types.specs.Answers.{searchSays};
 ghost use Rattle.tables.specs.Steps.{steps};
@@ -58,12 +59,12 @@ fn walk(limits: Limits, table: &[u16], store: &[u8], label: &[u8], root: usize) 
         (steps limits (now (table .entry)) (now (store .entry)) (now (label .entry)) (limits .depth) root 1 1) ⌝ }
 {
     let mut link = root;
-    let mut left = limits.depth;
+    let mut remaining = limits.depth;
     let mut places = 0;
     let mut ends = [1, 1];
     loop {
-        if nodes::halts(limits, table, link, left) {
-            return halted(link, limits.depth - left, places);
+        if nodes::halts(limits, table, link, remaining) {
+            return halted(link, limits.depth - remaining, places);
         }
         let row = words::read_row(table, link);
         let side = row.side as usize;
@@ -86,7 +87,7 @@ fn walk(limits: Limits, table: &[u16], store: &[u8], label: &[u8], root: usize) 
                         return SearchAnswer::Found {
                             slot: link,
                             value: row.value,
-                            visits: limits.depth - left + 1,
+                            visits: limits.depth - remaining + 1,
                             places,
                         };
                     }
@@ -98,7 +99,7 @@ fn walk(limits: Limits, table: &[u16], store: &[u8], label: &[u8], root: usize) 
             }
         };
         link = son(row, right) as usize;
-        left -= 1;
+        remaining -= 1;
     }
 }
 
@@ -109,17 +110,9 @@ pub fn search_within(limits: Limits, table: &[u16], store: &[u8], label: &[u8]) 
     ensures { λ r. ⌜
         searchSays r ≡ searchOutcome limits (now (table .entry)) (now (store .entry)) (now (label .entry)) ⌝ }
 {
-    if table.len() != 4 + 8 * limits.slots {
-        return SearchAnswer::Refused(Refusal::WrongTable);
+    let early = words::lengths::with_label(limits, table, store, label);
+    match early {
+        Early::Refused(refusal) => SearchAnswer::Refused(refusal),
+        Early::Pass => walk(limits, table, store, label, table[0] as usize),
     }
-    if store.len() != limits.slots * limits.width {
-        return SearchAnswer::Refused(Refusal::WrongStore);
-    }
-    if label.len() == 0 {
-        return SearchAnswer::Refused(Refusal::EmptyLabel);
-    }
-    if limits.width < label.len() {
-        return SearchAnswer::Refused(Refusal::LongLabel);
-    }
-    walk(limits, table, store, label, table[0] as usize)
 }

@@ -17,7 +17,7 @@ use Rattle.trees.specs.Heights.{height}
 use Rattle.trees.proofs.Sorted.{Between}
 use Rattle.tables.specs.Words.{rootLink}
 use Rattle.tables.specs.Written.{linkOf}
-use Rattle.tables.specs.Steps.{Step, Walk, ended, visited, walkBy, missing, steps, searchSteps}
+use Rattle.tables.specs.Steps.{Step, Walk, ended, visitThen, walkBy, missing, steps, searchSteps}
 use Rattle.tables.specs.Outcomes.{placesOf}
 use Rattle.tables.proofs.Represents.{Represents}
 use Rattle.steps.proofs.Window.{Sought, sought-first, numbers-within}
@@ -41,9 +41,9 @@ steps-at-missing limits table store x (suc left) P S = refl
 -- the larger of P and S
 visited-agrees : {x : Label} {P S P' S' : ℕ} {walk : Walk} {search : Search} (e : Entry) (examined : ℕ)
     → examined + max P S ≤ suc (max P' S') → Agrees x P' S' walk search
-    → Agrees x P S (visited e examined walk) (visit e search)
+    → Agrees x P S (visitThen e examined walk) (visit e search)
 visited-agrees e examined raised rest =
-    record { places = examined + rest .places; ends = ap (visited e examined) (rest .ends); few = omega arith }
+    record { places = examined + rest .places; ends = ap (visitThen e examined) (rest .ends); few = omega arith }
 
 -- a walk that is over agrees with a search that is
 over-agrees : (x : Label) (result : Held) (P S : ℕ) → max P S ≤ suc (length x)

@@ -3,3 +3,4 @@ pub mod Represents
 pub mod Reading
 pub mod Clauses
 pub mod Offsets
+pub mod Paths

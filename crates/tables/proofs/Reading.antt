@@ -12,6 +12,7 @@ use native.Mathlib.Omega.{arith}
 use lib.ListN.{length}
 use borrow.Author.Tests.{le-ltb}
 use Rattle.labels.proofs.Numbers.{Ltb, lt-yes, lt-no, ltb-view}
+use Rattle.labels.proofs.Clashes.{clash}
 use Rattle.types.specs.declared.Limits.{Limits}
 use Rattle.trees.specs.Trees.{Tree, empty, node}
 use Rattle.tables.specs.Words.{rowAt, entryAt}
@@ -82,13 +83,13 @@ module _ (limits : Limits) (table : List ℕ) where
 -- A tree that is read at a link stands there.
 pub stands-when-read : {limits : Limits} {table store : List ℕ} {link : ℕ} {x : Reading} {t : Tree}
     → TreeRead limits table store link x → x ≡ reads t → Stands limits table store t link
-stands-when-read no-tree is = let z : _≡_ {A = ℕ} 0 1 = cc in absurd (omega arith)
+stands-when-read no-tree is = clash cc
 stands-when-read {t = t} (a-tree {t = u} stands) is = let same : u ≡ t = cc in rw (← same) stands
 
 -- A chain that is read at a link goes on from there.
 pub follows-when-read : {limits : Limits} {table : List ℕ} {link : ℕ} {x : Chain} {list : List ℕ}
     → ChainRead limits table link x → x ≡ chain list → Follows limits table list link
-follows-when-read no-chain is = let z : _≡_ {A = ℕ} 0 1 = cc in absurd (omega arith)
+follows-when-read no-chain is = clash cc
 follows-when-read {list = list} (a-chain {list = one} follows) is = let same : one ≡ list = cc in rw (← same) follows
 
 -- A chain that goes on from a link, and is not too long, is read there.

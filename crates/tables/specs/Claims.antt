@@ -1,7 +1,6 @@
 -- The claims: sound tables are the written-out trees; demand 2, the ordered map; demand 3, the cost rule over a whole
 -- list of calls.
 use mathlib.Core.List.{List, [], _∷_, map}
-use mathlib.Core.Logic.{_↔_}
 use mathlib.Core.Option.{Option, none, some}
 use mathlib.Core.Path.{_≡_}
 use mathlib.Core.Bool.{true}
@@ -11,8 +10,8 @@ use Rattle.types.specs.declared.Limits.{Limits}
 use Rattle.types.specs.Sizes.{tableLength, storeLength}
 use Rattle.types.specs.Answers.{Answer, found, absent, updated, listed, done, refused}
 use Rattle.labels.specs.Labels.{Label}
-use Rattle.trees.specs.Trees.{Entry, Tree, size, labels, slots, entries}
-use Rattle.trees.specs.Heights.{least, Deepest}
+use Rattle.trees.specs.Trees.{Entry, Tree, NodeOf, size}
+use Rattle.trees.specs.Heights.{least}
 use Rattle.trees.specs.Searches.{fullSearch}
 use Rattle.trees.specs.Plain as plain
 use Rattle.trees.specs.Plain.{State, fresh, Call, soughtBy, plainStep}
@@ -20,10 +19,10 @@ use Rattle.trees.specs.Valid.{Valid, ascends}
 use Rattle.trees.specs.Map.{Pair, lookup, insertion, removal, mapOf}
 use Rattle.tables.specs.Words.{slotStart, rowAt, partStart, labelAt}
 use Rattle.tables.specs.Written.{Memory, written}
-use Rattle.tables.specs.Steps.{Walk, ended, searchSteps}
+use Rattle.tables.specs.Steps.{ended, searchSteps}
 use Rattle.tables.specs.Sound.{sound, stateOf}
 use Rattle.tables.specs.Outcomes.{Outcome, searchOutcome, updateOutcome, layoutOutcome, listingOutcome}
-use Rattle.tables.specs.Outcomes.{replyAnswer, placesOf}
+use Rattle.tables.specs.Outcomes.{replyAnswer, visitsOf, placesOf}
 
 -- ---- sizes
 
@@ -157,6 +156,18 @@ pub record SearchAgrees (limits : Limits) (x : Label) (m : Memory) (t : Tree) : 
   -- places at most the sought label's length plus the visits
   pub short : placesOf (searchSteps limits (m .table) (m .store) x) ≤ length x + length (fullSearch x t .visited)
 
+-- "a search finds exactly the labels it holds, with its values": where a node of the plain tree has the label, the
+-- search is answered found with that node's slot and value; and it is answered found nowhere else
+pub record FindsHeld (limits : Limits) (x : Label) (m : Memory) (t : Tree) : Type 0 where
+  pub held :
+      (e : Entry) → NodeOf e t → e .label ≡ x
+      → searchOutcome limits (m .table) (m .store) x
+      ≡ found (e .slot) (e .value) (visitsOf (searchSteps limits (m .table) (m .store) x))
+      (placesOf (searchSteps limits (m .table) (m .store) x))
+  pub only :
+      (slot value visits places : ℕ) → searchOutcome limits (m .table) (m .store) x ≡ found slot value visits places
+      → (e : Entry) × NodeOf e t × (e .label ≡ x) × (e .slot ≡ slot) × (e .value ≡ value)
+
 -- what a call of the list answers and leaves
 abbrev pub callOutcome : Limits → Call → Memory → Outcome
 callOutcome limits (plain.search x) m = record { answer = searchOutcome limits (m .table) (m .store) x; memory = m }
@@ -166,6 +177,7 @@ callOutcome limits (plain.delete x) m = updateOutcome limits (plain.delete x) (m
 -- one call of the list, beside the plain tree's step
 pub record CallAgrees (limits : Limits) (c : Call) (m : Memory) (s : State) : Type 0 where
   pub search : LabelFits limits (soughtBy c) → SearchAgrees limits (soughtBy c) m (s .tree)
+  pub finds : LabelFits limits (soughtBy c) → FindsHeld limits (soughtBy c) m (s .tree)
   -- refused when the plain tree refuses, by the same number; slots and values are the plain tree's; the counts are
   -- those of the steps
   pub answer :

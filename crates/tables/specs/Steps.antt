@@ -55,15 +55,15 @@ pub data Walk : Type 0 where
   ended : Search → (places : ℕ) → Walk
 
 -- a walk that visited the node e first, and examined places there
-abbrev pub visited : Entry → ℕ → Walk → Walk
-visited e examined broken = broken
-visited e examined (ended s places) = ended (visit e s) (examined + places)
+abbrev pub visitThen : Entry → ℕ → Walk → Walk
+visitThen e examined broken = broken
+visitThen e examined (ended s places) = ended (visit e s) (examined + places)
 
 -- the walk from a node, by its step there and the walks into its sons
 abbrev pub walkBy : Step → Entry → (ℕ → ℕ → Walk) → (ℕ → ℕ → Walk) → Walk
-walkBy (go-left p s examined) e toLeft toRight = visited e examined (toLeft p s)
-walkBy (go-right p s examined) e toLeft toRight = visited e examined (toRight p s)
-walkBy (stop examined) e toLeft toRight = visited e examined (ended (record { visited = []; result = found e }) 0)
+walkBy (go-left p s examined) e toLeft toRight = visitThen e examined (toLeft p s)
+walkBy (go-right p s examined) e toLeft toRight = visitThen e examined (toRight p s)
+walkBy (stop examined) e toLeft toRight = visitThen e examined (ended (record { visited = []; result = found e }) 0)
 
 -- "An empty link means absent."
 abbrev pub missing : Walk

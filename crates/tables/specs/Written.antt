@@ -45,7 +45,8 @@ nodeRow p l e r s =
 abbrev pub freeRow : ℕ → Row
 freeRow next = record { left = next; right = 0; place = 0; side = 0; balance = 0; len = 0; value = 0; spare = 0 }
 
--- the row of slot k in a tree between p and s; otherwise where the tree does not have the slot
+-- the row of slot k in a tree between p and s; otherwise where the tree does not have the slot.
+-- The window p, s that is passed down is each node's predecessor and successor: `WindowIsNeighbour` (Paths).
 abbrev pub treeRow : Neighbour → Neighbour → Tree → ℕ → Row → Row
 treeRow p s empty k otherwise = otherwise
 treeRow p s (node l e r) k otherwise =

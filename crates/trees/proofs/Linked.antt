@@ -8,7 +8,6 @@ use mathlib.Core.List.{List, [], _∷_, _++_}
 use mathlib.Core.Path.{_≡_, refl}
 use mathlib.Core.Bool.{true, false}
 use Prim.Native.Nat.{ℕ}
-use native.Mathlib.Omega.{arith}
 use Rattle.labels.specs.Labels.{Label, Comparison, compareLabels, Finds, is-smaller, is-same, is-larger}
 use Rattle.labels.specs.Neighbours.{Neighbour, none-below, held, none-above}
 use Rattle.labels.proofs.Order.{below-of-smaller, none-below-held, held-none-above, none-below-none-above}
@@ -16,6 +15,7 @@ use Rattle.labels.proofs.Alike.{below-alike}
 use Rattle.labels.proofs.Compare.{compares-by-places}
 use Rattle.labels.proofs.Results.{compare-smaller}
 use Rattle.labels.proofs.Difference.{Before, below-is-before, before-trans}
+use Rattle.labels.proofs.Clashes.{clash}
 use Rattle.trees.specs.Valid.{isSmaller, belowFirst, ascends}
 use Rattle.trees.proofs.Views.{both-true}
 
@@ -25,8 +25,8 @@ before-of-smaller x y = go (compares-by-places x y)
   where
     go : {c : Comparison} → Finds x y c → isSmaller c ≡ true → Before (held x) (held y)
     go (is-smaller there) passed = below-is-before (below-of-smaller there)
-    go (is-same alike end) passed = let z : _≡_ {A = ℕ} 0 1 = cc in absurd (omega arith)
-    go (is-larger there) passed = let z : _≡_ {A = ℕ} 0 1 = cc in absurd (omega arith)
+    go (is-same alike end) passed = clash cc
+    go (is-larger there) passed = clash cc
 
 -- A label that is before tests smaller.
 pub smaller-of-before : {x y : Label} → Before (held x) (held y) → isSmaller (compareLabels x y) ≡ true
@@ -96,7 +96,7 @@ linked-past {x = x} {y = y} = go (compares-by-places x y)
   where
     go : {p : Neighbour} {list : List Label} {c : Comparison} → Finds x y c → isSmaller c ≡ false
         → Linked p list (held y) → Linked p list (held x)
-    go (is-smaller there) past linked = let z : _≡_ {A = ℕ} 0 1 = cc in absurd (omega arith)
+    go (is-smaller there) past linked = clash cc
     go (is-same alike end) past linked = linked-on (λ q before. below-is-before (below-alike before alike)) linked
     go (is-larger there) past linked =
         linked-on (λ q before. before-trans before (below-is-before (below-of-smaller there))) linked

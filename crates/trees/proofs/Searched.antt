@@ -1,26 +1,70 @@
--- What a full search found.
+-- What a full search finds.
 -- found-label: the node that a search found has the label sought.
-use mathlib.Core.Path.{_≡_, ap, _∙_}
+-- found-node: it is a node of the tree.
+-- node-between: a node of an ordered tree lies within the tree's window.
+-- node-found: a search of an ordered tree for the label of one of its nodes finds that node.
+use mathlib.Core.Path.{_≡_, refl, ap, _∙_}
 use Prim.Native.Nat.{ℕ}
-use native.Mathlib.Omega.{arith}
-use Rattle.labels.specs.Labels.{Label, Comparison, Finds, is-smaller, is-same, is-larger}
+use Rattle.labels.specs.Labels.{Label, Comparison, smaller, same, larger, compareLabels}
+use Rattle.labels.specs.Labels.{Finds, is-smaller, is-same, is-larger}
+use Rattle.labels.specs.Neighbours.{Neighbour, held}
 use Rattle.labels.proofs.Compare.{compares-by-places}
 use Rattle.labels.proofs.Equal.{alike-equal}
-use Rattle.trees.specs.Trees.{Entry, Tree, empty, node}
+use Rattle.labels.proofs.Alike.{alike-refl}
+use Rattle.labels.proofs.Results.{compare-smaller, compare-same, compare-larger}
+use Rattle.labels.proofs.Difference.{Before, before-trans}
+use Rattle.labels.proofs.Clashes.{clash}
+use Rattle.trees.specs.Trees.{Entry, Tree, empty, node, NodeOf, at-root, on-left, on-right}
 use Rattle.trees.specs.Searches.{found, Search, searchBy, fullSearch}
+use Rattle.trees.proofs.Sorted.{Between}
 
 found-at-node : (x : Label) (d : Entry) (onLeft onRight : Search) {e : Entry} {c : Comparison} → Finds x (d .label) c
     → searchBy c d onLeft onRight .result ≡ found e → (onLeft .result ≡ found e → x ≡ e .label)
     → (onRight .result ≡ found e → x ≡ e .label) → x ≡ e .label
-found-at-node x d onLeft onRight (is-smaller there) held left right = left held
-found-at-node x d onLeft onRight {e} (is-same alike end) held left right =
+found-at-node x d onLeft onRight (is-smaller there) finds left right = left finds
+found-at-node x d onLeft onRight {e} (is-same alike end) finds left right =
     let here : d ≡ e = cc in
     alike-equal x (d .label) alike ∙ ap (λ (n : Entry). n .label) here
-found-at-node x d onLeft onRight (is-larger there) held left right = right held
+found-at-node x d onLeft onRight (is-larger there) finds left right = right finds
 
 -- The node that a search found has the label sought.
 pub found-label : (x : Label) (t : Tree) {e : Entry} → fullSearch x t .result ≡ found e → x ≡ e .label
-found-label x empty held = let z : _≡_ {A = ℕ} 0 1 = cc in absurd (omega arith)
-found-label x (node l d r) held =
-    found-at-node x d (fullSearch x l) (fullSearch x r) (compares-by-places x (d .label)) held
+found-label x empty finds = clash cc
+found-label x (node l d r) finds =
+    found-at-node x d (fullSearch x l) (fullSearch x r) (compares-by-places x (d .label)) finds
     (found-label x l) (found-label x r)
+
+node-by : (l r : Tree) (d : Entry) (onLeft onRight : Search) (c : Comparison) {e : Entry}
+    → searchBy c d onLeft onRight .result ≡ found e → (onLeft .result ≡ found e → NodeOf e l)
+    → (onRight .result ≡ found e → NodeOf e r) → NodeOf e (node l d r)
+node-by l r d onLeft onRight (smaller i) finds left right = on-left (left finds)
+node-by l r d onLeft onRight (same i) {e} finds left right = let here : d ≡ e = cc in rw here at-root
+node-by l r d onLeft onRight (larger i) finds left right = on-right (right finds)
+
+-- The node that a search found is a node of the tree.
+pub found-node : (x : Label) (t : Tree) {e : Entry} → fullSearch x t .result ≡ found e → NodeOf e t
+found-node x empty finds = clash cc
+found-node x (node l d r) finds =
+    node-by l r d (fullSearch x l) (fullSearch x r) (compareLabels x (d .label)) finds (found-node x l) (found-node x r)
+
+-- A node of an ordered tree lies within the tree's window.
+pub node-between : {t : Tree} {e : Entry} {p s : Neighbour} → Between p s t → NodeOf e t
+    → Before p (held (e .label)) × Before (held (e .label)) s
+node-between between at-root = (between .above, between .below)
+node-between between (on-left there) =
+    let within = node-between (between .on-left) there in
+    (within .0, before-trans (within .1) (between .below))
+node-between between (on-right there) =
+    let within = node-between (between .on-right) there in
+    (before-trans (between .above) (within .0), within .1)
+
+-- A search of an ordered tree for the label of one of its nodes finds that node.
+pub node-found : (p s : Neighbour) {t : Tree} {e : Entry} → Between p s t → NodeOf e t
+    → fullSearch (e .label) t .result ≡ found e
+node-found p s {e = e} between at-root = rw (compare-same (alike-refl (e .label)))
+node-found p s between (on-left {d = d} there) =
+    rw (compare-smaller (node-between (between .on-left) there .1))
+    (node-found p (held (d .label)) (between .on-left) there)
+node-found p s between (on-right {d = d} there) =
+    rw (compare-larger (node-between (between .on-right) there .0))
+    (node-found (held (d .label)) s (between .on-right) there)

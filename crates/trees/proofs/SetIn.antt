@@ -4,8 +4,8 @@
 use mathlib.Core.List.{List, [], _∷_, _++_, append-assoc}
 use mathlib.Core.Path.{_≡_, refl}
 use Prim.Native.Nat.{ℕ}
-use native.Mathlib.Omega.{arith}
 use Rattle.labels.specs.Labels.{Label, Comparison, smaller, same, larger, compareLabels}
+use Rattle.labels.proofs.Clashes.{clash}
 use Rattle.trees.specs.Trees.{Entry, Tree, empty, node, entries}
 use Rattle.trees.specs.Searches.{absent, found, Search, searchBy, fullSearch}
 use Rattle.trees.specs.Updates.{insertedBy, inserted, deletedBy, deleted}
@@ -53,7 +53,7 @@ module _ (l : Tree) (e : Entry) (r l′ r′ : Tree) (onLeft onRight : Search) w
       → (onRight .result ≡ absent → SetIn new (entries r) (entries r′))
       → SetIn new (entries (node l e r)) (entries (insertedBy c l e r l′ r′))
   insertedBy-sets-in (smaller i) none onL onR = rw entries-of-rebalanced (set-in-left l e r (onL none))
-  insertedBy-sets-in (same i) none onL onR = let z : _≡_ {A = ℕ} 0 1 = cc in absurd (omega arith)
+  insertedBy-sets-in (same i) none onL onR = clash cc
   insertedBy-sets-in (larger i) none onL onR = rw entries-of-rebalanced (set-in-right l e r (onR none))
 
   found-is-set-in-by : (c : Comparison) {gone : Entry} → searchBy c e onLeft onRight .result ≡ found gone
@@ -77,7 +77,7 @@ inserted-sets-in new (node l e r) none =
 -- The nodes are those that delete leaves, with the found node set in at some place.
 pub found-is-set-in : (x : Label) (t : Tree) {e : Entry} → fullSearch x t .result ≡ found e
     → SetIn e (entries (deleted x t)) (entries t)
-found-is-set-in x empty held = let z : _≡_ {A = ℕ} 0 1 = cc in absurd (omega arith)
+found-is-set-in x empty held = clash cc
 found-is-set-in x (node l e r) held =
     found-is-set-in-by l e r (deleted x l) (deleted x r) (fullSearch x l) (fullSearch x r)
     (compareLabels x (e .label)) held (found-is-set-in x l) (found-is-set-in x r)

@@ -12,6 +12,12 @@ pub data Tree : Type 0 where
   empty : Tree
   node : Tree → Entry → Tree → Tree
 
+-- an entry is one of a tree's nodes
+pub data NodeOf (e : Entry) : Tree → Type 0 where
+  at-root : {l r : Tree} → NodeOf e (node l e r)
+  on-left : {l r : Tree} {d : Entry} → NodeOf e l → NodeOf e (node l d r)
+  on-right : {l r : Tree} {d : Entry} → NodeOf e r → NodeOf e (node l d r)
+
 -- the nodes from left to right
 abbrev pub entries : Tree → List Entry
 entries empty = []

@@ -1,5 +1,5 @@
--- The states that the plain tree can be in: the parts of document 01's sentence on sound tables that speak of the tree
--- and its slots alone.
+-- Valid states of the plain tree: the parts of document 01's sentence on sound tables that speak of the tree and its
+-- slots alone.
 use mathlib.Core.List.{List, [], _∷_, _++_}
 use mathlib.Core.Path.{_≡_}
 use mathlib.Core.Bool.{Bool, true, false, _&&_}
@@ -47,7 +47,8 @@ onceUpTo (suc n) list = eqb (occurrences (suc n) list) 1 && onceUpTo n list
 abbrev pub exactlyUpTo : ℕ → List ℕ → Bool
 exactlyUpTo high list = eqb (length list) high && onceUpTo high list
 
--- a plain tree with its freed slots and high mark that some list of calls could leave
+-- a height-balanced tree whose labels ascend and fit the width; its slots and the freed ones together are those up to
+-- the high mark, each once; the high mark is within the capacity
 pub record Valid (capacity width : ℕ) (s : State) : Type 0 where
   pub balanced : Balanced (s .tree)
   pub ascending : ascends (labels (s .tree)) ≡ true

@@ -1,3 +1,1 @@
-pub mod Rows
 pub mod Turns
-pub mod Paths

@@ -6,8 +6,8 @@ use Prim.Native.Nat.{ℕ}
 use lib.Dec.{eqb}
 use Rattle.types.specs.declared.Row.{Row}
 use Rattle.turns.specs.declared.Rebuilt.{Rebuilt}
-use Rattle.turns.specs.declared.Balances.{Balances}
-use Rattle.turns.specs.Rows.{rowOn, putOn, relinked, raised, lowered}
+use Rattle.sides.specs.Rows.{rowOn, putOn, linkedRow}
+use Rattle.sides.specs.Rotated.{lowOnce, highOnce, outerTwice, innerTwice, topTwice}
 
 -- an update's outcome: the table, and the subtree
 pub record Turned : Type 0 where
@@ -26,15 +26,7 @@ pub record Yields (turned : Turned) (after : List ℕ) (rebuilt : Rebuilt) : Typ
 unfoldable pub withSon : Bool → List ℕ → (c son : ℕ) → List ℕ
 withSon flip table c son =
     let row = rowOn flip table c in
-    putOn flip table c (relinked row son (row .right) (row .balance))
-
--- the rows that one rotation stores: c's below its near son, and that son's above c
-abbrev pub lowOnce : Bool → (parent son : Row) → Row
-lowOnce flip parent son =
-    relinked (lowered flip parent son) (son .right) (parent .right) (cond (eqb (son .balance) 1) 0 1)
-
-abbrev pub highOnce : Bool → ℕ → (parent son : Row) → Row
-highOnce flip c parent son = relinked (raised flip parent son) (son .left) c (cond (eqb (son .balance) 1) 2 1)
+    putOn flip table c (linkedRow row son (row .right) (row .balance))
 
 -- "one rotation": the near son rises over c. Where that son was even, the subtree stays as tall and both nodes lean.
 unfoldable pub turnOnce : Bool → List ℕ → ℕ → Turned
@@ -44,24 +36,7 @@ turnOnce flip table c =
     outcome (putOn flip (putOn flip table c (lowOnce flip parent son)) (parent .left) (highOnce flip c parent son))
     (parent .left) (eqb (son .balance) 1)
 
--- the balances after a double rotation, by the old balance of the node that rises
-abbrev pub balancesOf : ℕ → Balances
-balancesOf middle = record { outer = cond (eqb middle 2) 0 1; inner = cond (eqb middle 0) 2 1; top = 1 }
-
--- the rows that a double rotation stores: the near son's, c's, and that of the node that rises over both
-abbrev pub outerTwice : Bool → (son middle : Row) → Row
-outerTwice flip son middle =
-    relinked (lowered (not flip) son middle) (son .left) (middle .left) (balancesOf (middle .balance) .outer)
-
-abbrev pub innerTwice : Bool → (parent son middle : Row) → Row
-innerTwice flip parent son middle =
-    relinked (lowered flip parent (raised (not flip) son middle)) (middle .right) (parent .right)
-    (balancesOf (middle .balance) .inner)
-
-abbrev pub topTwice : Bool → ℕ → (parent son middle : Row) → Row
-topTwice flip c parent son middle =
-    relinked (raised flip parent (raised (not flip) son middle)) (parent .left) c (balancesOf (middle .balance) .top)
-
+-- the three rows of a double rotation stored
 abbrev pub putTwice : Bool → List ℕ → ℕ → (parent son middle : Row) → List ℕ
 putTwice flip table c parent son middle =
     let outer = putOn flip table (parent .left) (outerTwice flip son middle) in
@@ -86,8 +61,8 @@ turn flip table c =
 unfoldable pub lean : Bool → List ℕ → ℕ → Turned
 lean flip table c =
     let row = rowOn flip table c in
-    cond (eqb (row .balance) 2) (outcome (putOn flip table c (relinked row (row .left) (row .right) 1)) c false)
-    (cond (eqb (row .balance) 1) (outcome (putOn flip table c (relinked row (row .left) (row .right) 0)) c true)
+    cond (eqb (row .balance) 2) (outcome (putOn flip table c (linkedRow row (row .left) (row .right) 1)) c false)
+    (cond (eqb (row .balance) 1) (outcome (putOn flip table c (linkedRow row (row .left) (row .right) 0)) c true)
     (turn flip table c))
 
 -- c over its near son, which was inserted into

@@ -1,12 +1,10 @@
 // Rotations of a subtree and the balance of its root. `c` is the root's slot; in every row the near son is on the left.
-use crate::Balances;
 use crate::Rebuilt;
-use crate::rows;
+use sides::rotated;
+use sides::rows;
 use types::Row;
 ghost use mathlib.Core.Path.{_≡_};
-ghost use Rattle.turns.specs.Turns.{Yields, withSon, lowOnce, highOnce, turnOnce};
-ghost use Rattle.turns.specs.Turns.{balancesOf, outerTwice, innerTwice, topTwice, putTwice, turnTwice};
-ghost use Rattle.turns.specs.Turns.{turn, lean, grow, shrink};
+ghost use Rattle.turns.specs.Turns.{Yields, withSon, turnOnce, putTwice, turnTwice, turn, lean, grow, shrink};
 
 // Gives c a new near son.
 pub fn with_son(table: &mut [u16], flip: bool, c: u16, son: u16)
@@ -17,32 +15,8 @@ pub fn with_son(table: &mut [u16], flip: bool, c: u16, son: u16)
         table,
         flip,
         c,
-        rows::relinked(row, son, row.right, row.balance),
+        rows::linked_row(row, son, row.right, row.balance),
     );
-}
-
-// The row of c below its near son, after one rotation.
-pub fn low_once(flip: bool, parent: Row, son: Row) -> Row
-    ensures { λ r. ⌜ r ≡ lowOnce flip parent son ⌝ }
-{
-    let low = rows::lowered(flip, parent, son);
-    if son.balance == 1 {
-        rows::relinked(low, son.right, parent.right, 0)
-    } else {
-        rows::relinked(low, son.right, parent.right, 1)
-    }
-}
-
-// The row of the near son above c, after one rotation.
-pub fn high_once(flip: bool, c: u16, parent: Row, son: Row) -> Row
-    ensures { λ r. ⌜ r ≡ highOnce flip c parent son ⌝ }
-{
-    let high = rows::raised(flip, parent, son);
-    if son.balance == 1 {
-        rows::relinked(high, son.left, c, 2)
-    } else {
-        rows::relinked(high, son.left, c, 1)
-    }
 }
 
 // One rotation: the near son rises over c. Where that son was even, the subtree stays as tall.
@@ -51,86 +25,40 @@ pub fn turn_once(table: &mut [u16], flip: bool, c: u16) -> Rebuilt
 {
     let parent = rows::row_on(table, flip, c);
     let son = rows::row_on(table, flip, parent.left);
-    rows::put_on(table, flip, c, low_once(flip, parent, son));
-    rows::put_on(table, flip, parent.left, high_once(flip, c, parent, son));
+    rows::put_on(table, flip, c, rotated::low_once(flip, parent, son));
+    rows::put_on(
+        table,
+        flip,
+        parent.left,
+        rotated::high_once(flip, c, parent, son),
+    );
     Rebuilt {
         link: parent.left,
         tall: son.balance == 1,
     }
 }
 
-// The balances after a double rotation, by the old balance of the node that rises.
-pub fn balances(middle: u16) -> Balances
-    ensures { λ r. ⌜ r ≡ balancesOf middle ⌝ }
-{
-    if middle == 0 {
-        return Balances {
-            outer: 1,
-            inner: 2,
-            top: 1,
-        };
-    }
-    if middle == 2 {
-        return Balances {
-            outer: 0,
-            inner: 1,
-            top: 1,
-        };
-    }
-    Balances {
-        outer: 1,
-        inner: 1,
-        top: 1,
-    }
-}
-
-// The row of the near son, after a double rotation.
-pub fn outer_twice(flip: bool, son: Row, middle: Row) -> Row
-    ensures { λ r. ⌜ r ≡ outerTwice flip son middle ⌝ }
-{
-    let now = balances(middle.balance);
-    rows::relinked(
-        rows::lowered(!flip, son, middle),
-        son.left,
-        middle.left,
-        now.outer,
-    )
-}
-
-// The row of c, after a double rotation.
-pub fn inner_twice(flip: bool, parent: Row, son: Row, middle: Row) -> Row
-    ensures { λ r. ⌜ r ≡ innerTwice flip parent son middle ⌝ }
-{
-    let now = balances(middle.balance);
-    let once = rows::raised(!flip, son, middle);
-    rows::relinked(
-        rows::lowered(flip, parent, once),
-        middle.right,
-        parent.right,
-        now.inner,
-    )
-}
-
-// The row of the node that rises, after a double rotation.
-pub fn top_twice(flip: bool, c: u16, parent: Row, son: Row, middle: Row) -> Row
-    ensures { λ r. ⌜ r ≡ topTwice flip c parent son middle ⌝ }
-{
-    let now = balances(middle.balance);
-    let once = rows::raised(!flip, son, middle);
-    rows::relinked(rows::raised(flip, parent, once), parent.left, c, now.top)
-}
-
 // Stores the three rows of a double rotation.
 pub fn put_twice(table: &mut [u16], flip: bool, c: u16, parent: Row, son: Row, middle: Row)
     ensures { λ _. ⌜ now (table .exit) ≡ putTwice flip (now (table .entry)) c parent son middle ⌝ }
 {
-    rows::put_on(table, flip, parent.left, outer_twice(flip, son, middle));
-    rows::put_on(table, flip, c, inner_twice(flip, parent, son, middle));
+    rows::put_on(
+        table,
+        flip,
+        parent.left,
+        rotated::outer_twice(flip, son, middle),
+    );
+    rows::put_on(
+        table,
+        flip,
+        c,
+        rotated::inner_twice(flip, parent, son, middle),
+    );
     rows::put_on(
         table,
         flip,
         son.right,
-        top_twice(flip, c, parent, son, middle),
+        rotated::top_twice(flip, c, parent, son, middle),
     );
 }
 
@@ -167,14 +95,24 @@ pub fn lean(table: &mut [u16], flip: bool, c: u16) -> Rebuilt
 {
     let row = rows::row_on(table, flip, c);
     if row.balance == 2 {
-        rows::put_on(table, flip, c, rows::relinked(row, row.left, row.right, 1));
+        rows::put_on(
+            table,
+            flip,
+            c,
+            rows::linked_row(row, row.left, row.right, 1),
+        );
         return Rebuilt {
             link: c,
             tall: false,
         };
     }
     if row.balance == 1 {
-        rows::put_on(table, flip, c, rows::relinked(row, row.left, row.right, 0));
+        rows::put_on(
+            table,
+            flip,
+            c,
+            rows::linked_row(row, row.left, row.right, 0),
+        );
         return Rebuilt {
             link: c,
             tall: true,

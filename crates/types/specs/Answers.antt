@@ -20,32 +20,32 @@ pub data Answer : Type 0 where
   refused : (number : ℕ) → Answer
 
 -- the column 'No.' of the table of refusals
-abbrev pub numberOf : Refusal → ℕ
-numberOf WrongTable = 1
-numberOf WrongStore = 2
-numberOf EmptyLabel = 3
-numberOf LongLabel = 4
-numberOf BrokenWalk = 5
-numberOf NotSound = 6
-numberOf AlreadyHeld = 7
-numberOf NotHeld = 8
-numberOf Full = 9
-numberOf ShortList = 10
-numberOf WrongSlot = 11
+abbrev pub refusalNumber : Refusal → ℕ
+refusalNumber WrongTable = 1
+refusalNumber WrongStore = 2
+refusalNumber EmptyLabel = 3
+refusalNumber LongLabel = 4
+refusalNumber BrokenWalk = 5
+refusalNumber NotSound = 6
+refusalNumber AlreadyHeld = 7
+refusalNumber NotHeld = 8
+refusalNumber Full = 9
+refusalNumber ShortList = 10
+refusalNumber WrongSlot = 11
 
 abbrev pub searchSays : search.SearchAnswer → Answer
 searchSays (search.the-variants.Found slot value visits places) = found slot value visits places
 searchSays (search.the-variants.Absent visits places) = absent visits places
-searchSays (search.the-variants.Refused r) = refused (numberOf r)
+searchSays (search.the-variants.Refused r) = refused (refusalNumber r)
 
 abbrev pub updateSays : update.UpdateAnswer → Answer
 updateSays (update.the-variants.Updated slot visits places) = updated slot visits places
-updateSays (update.the-variants.Refused r) = refused (numberOf r)
+updateSays (update.the-variants.Refused r) = refused (refusalNumber r)
 
 abbrev pub doneSays : plain.DoneAnswer → Answer
 doneSays plain.the-variants.Done = done
-doneSays (plain.the-variants.Refused r) = refused (numberOf r)
+doneSays (plain.the-variants.Refused r) = refused (refusalNumber r)
 
 abbrev pub listSays : list.ListAnswer → Answer
 listSays (list.the-variants.Listed count) = listed count
-listSays (list.the-variants.Refused r) = refused (numberOf r)
+listSays (list.the-variants.Refused r) = refused (refusalNumber r)

@@ -1,7 +1,7 @@
 // The values that the calls of the label index take and give.
 ghost use mathlib.Core.Path.{_≡_};
 ghost use Rattle.types.specs.Sizes.{hub};
-ghost use Rattle.types.specs.Answers.{numberOf};
+ghost use Rattle.types.specs.Answers.{refusalNumber};
 
 // The sizes of an index: slots of the table, bytes of a label, nodes on a path from the root.
 pub struct Limits {
@@ -39,7 +39,7 @@ pub enum Refusal {
 
 // The number of a refusal.
 pub fn number_of(refusal: Refusal) -> usize
-    ensures { λ r. ⌜ r ≡ numberOf refusal ⌝ }
+    ensures { λ r. ⌜ r ≡ refusalNumber refusal ⌝ }
 {
     match refusal {
         Refusal::WrongTable => 1,

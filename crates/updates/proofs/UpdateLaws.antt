@@ -14,11 +14,11 @@ use Rattle.tables.specs.Words.{rootLink, labelsHeld}
 use Rattle.tables.specs.Prefix.{sideBy}
 use Rattle.turns.specs.declared.Rebuilt.{Rebuilt}
 use Rattle.turns.specs.Turns.{Turned, Yields}
-use Rattle.turns.specs.Paths.{insertAlong, deleteAlong}
-use Rattle.updates.specs.declared.Trace.{Trace}
-use Rattle.updates.specs.declared.Fields.{Fields}
-use Rattle.updates.specs.Slots.{slotTaken, afterFreed, withCount, withRootPlace}
-use Rattle.updates.specs.Renewals.{noFields}
+use Rattle.paths.specs.Paths.{insertAlong, deleteAlong}
+use Rattle.traces.specs.declared.Trace.{Trace}
+use Rattle.fields.specs.declared.Fields.{Fields}
+use Rattle.slots.specs.Slots.{slotTaken, afterFreed, withCount, withRootPlace}
+use Rattle.fields.specs.Between.{noFields}
 use Rattle.updates.specs.Inserts.{leafFields, rooted, withLeaf, insertedTable}
 use Rattle.updates.specs.Deletes.{readyToDelete, deletedTable}
 

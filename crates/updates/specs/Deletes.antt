@@ -4,10 +4,10 @@ use Prim.Native.Nat.{ℕ, _-_}
 use Rattle.types.specs.declared.Limits.{Limits}
 use Rattle.tables.specs.Words.{rootLink, labelsHeld}
 use Rattle.tables.specs.Written.{Memory}
-use Rattle.turns.specs.Paths.{deleteAlong}
-use Rattle.updates.specs.declared.Trace.{Trace}
-use Rattle.updates.specs.Slots.{afterFreed, withCount, withRootPlace, withoutLabel}
-use Rattle.updates.specs.Renewals.{Renewed, renewedAround}
+use Rattle.paths.specs.Paths.{deleteAlong}
+use Rattle.traces.specs.declared.Trace.{Trace}
+use Rattle.slots.specs.Slots.{afterFreed, withCount, withRootPlace, withoutLabel}
+use Rattle.renewals.specs.Renewals.{Renewed, renewedAround}
 use Rattle.updates.specs.Inserts.{rooted}
 
 -- the nodes around the found one renewed, the root's place counted as 0

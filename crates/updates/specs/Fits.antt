@@ -1,17 +1,12 @@
--- What insert and delete ask of a table, a label and the end of a search, so that each number they store fits a word.
+-- What insert asks of a table, a label and the end of a search, so that each number it stores fits a word.
 use Prim.Native.Nat.{ℕ, _≤_, _<_}
 use mathlib.Core.List.{List}
 use lib.ListN.{length}
 use Rattle.types.specs.declared.Limits.{Limits}
 use Rattle.labels.specs.Labels.{Label}
-use Rattle.tables.specs.Words.{labelsHeld, highMark, rowAt}
+use Rattle.tables.specs.Words.{labelsHeld, highMark}
 use Rattle.words.specs.Limits.{LimitsFit}
-use Rattle.updates.specs.declared.Trace.{Trace}
-
--- every row's label length is at most a label's width; past the table's end rows are read as zeros
-pub record RowsFit (limits : Limits) (table : List ℕ) : Type 0 where
-  pub fit : LimitsFit limits
-  pub lengths : (k : ℕ) → rowAt table k .len ≤ limits .width
+use Rattle.traces.specs.declared.Trace.{Trace}
 
 -- the numbers P and S at a search's end fit a word
 pub record EndsFit (trace : Trace) : Type 0 where

@@ -1,6 +1,6 @@
 -- Insert in the words and bytes, where a search of a sound table ended at an empty link.
 use mathlib.Core.List.{List}
-use mathlib.Core.Bool.{Bool, true, false, cond, _&&_}
+use mathlib.Core.Bool.{cond, _&&_}
 use Prim.Native.Nat.{ℕ, _+_, max}
 use lib.Dec.{eqb}
 use lib.ListN.{length, set}
@@ -12,10 +12,10 @@ use Rattle.tables.specs.Prefix.{sideBy}
 use Rattle.tables.specs.Written.{Memory}
 use Rattle.words.specs.Rows.{putRow}
 use Rattle.turns.specs.Turns.{Turned}
-use Rattle.turns.specs.Paths.{insertAlong}
-use Rattle.updates.specs.declared.Trace.{Trace}
-use Rattle.updates.specs.declared.Fields.{Fields}
-use Rattle.updates.specs.Slots.{slotTaken, afterTaken, withCount, withRootPlace, withLabel}
+use Rattle.paths.specs.Paths.{insertAlong}
+use Rattle.traces.specs.declared.Trace.{Trace}
+use Rattle.fields.specs.declared.Fields.{Fields}
+use Rattle.slots.specs.Slots.{slotTaken, afterTaken, withCount, withRootPlace, withLabel}
 
 -- a new leaf's place: the larger of P and S, but 0 at the root
 abbrev pub leafPlace : Trace → ℕ

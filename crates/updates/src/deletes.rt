@@ -1,13 +1,12 @@
 // Delete in the words and bytes, where a search of a sound table found the label.
-use crate::Fields;
-use crate::Trace;
-use crate::slots;
+use fields::Fields;
+use traces::Trace;
 use types::Limits;
 ghost use mathlib.Core.Path.{_≡_};
 ghost use Prim.Native.Nat.{_-_};
-ghost use Rattle.turns.specs.Paths.{deleteAlong};
-ghost use Rattle.updates.specs.Fits.{RowsFit};
-ghost use Rattle.updates.specs.Slots.{afterFreed, withCount, withoutLabel};
+ghost use Rattle.paths.specs.Paths.{deleteAlong};
+ghost use Rattle.fields.specs.Fits.{RowsFit};
+ghost use Rattle.slots.specs.Slots.{afterFreed, withCount, withoutLabel};
 ghost use Rattle.updates.specs.Inserts.{rooted};
 ghost use Rattle.updates.specs.Deletes.{readyToDelete, deletedTable};
 
@@ -18,7 +17,7 @@ pub fn get_ready(limits: Limits, table: &mut [u16], store: &[u8], trace: Trace) 
     ensures { λ _. ⌜ now (table .exit) ≡ readyToDelete limits (now (table .entry)) (now (store .entry)) trace .table ⌝ }
 {
     slots::set_root_place(table, 0);
-    crate::renewals::renew_around(limits, table, store, trace.found, trace.below, trace.above)
+    renewals::renew_around(limits, table, store, trace.found, trace.below, trace.above)
 }
 
 // Takes the node at the end of the path out of the tree. The fields are those of the node that takes its place.
@@ -27,7 +26,7 @@ pub fn take_out(limits: Limits, table: &mut [u16], root: u16, trace: Trace, next
         (deleteAlong (trace .length) (trace .path) (limits .depth) (now (table .entry)) root
         (next .place) (next .side)) ⌝ }
 {
-    let top = turns::update::delete_along(
+    let top = paths::delete_along(
         table,
         trace.length,
         trace.path,

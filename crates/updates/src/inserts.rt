@@ -1,7 +1,6 @@
 // Insert in the words and bytes, where a search of a sound table ended at an empty link.
-use crate::Fields;
-use crate::Trace;
-use crate::slots;
+use fields::Fields;
+use traces::Trace;
 use turns::Rebuilt;
 use types::Limits;
 use types::Row;
@@ -11,7 +10,7 @@ ghost use lib.ListN.{length, set};
 ghost use Rattle.tables.specs.Words.{labelsHeld};
 ghost use Rattle.words.specs.Rows.{putRow};
 ghost use Rattle.updates.specs.Fits.{EndsFit, CanGrow, CanInsert};
-ghost use Rattle.updates.specs.Slots.{slotTaken, afterTaken, withCount, withRootPlace, withLabel};
+ghost use Rattle.slots.specs.Slots.{slotTaken, afterTaken, withCount, withRootPlace, withLabel};
 ghost use Rattle.updates.specs.Inserts.{leafFields, leafRow, withLeaf, insertedTable};
 
 // The prefix fields of a new leaf at a search's end. Its side goes by which neighbours it has.
@@ -19,7 +18,7 @@ pub fn leaf_fields(trace: Trace) -> Fields
     requires { ⌜ EndsFit trace ⌝ }
     ensures { λ r. ⌜ r ≡ leafFields trace ⌝ }
 {
-    let fields = crate::renewals::fields_by(trace.p as u16, trace.s as u16);
+    let fields = fields::by_differences(trace.p as u16, trace.s as u16);
     if trace.above == 0 {
         if trace.below == 0 {
             return Fields { place: 0, side: 0 };
@@ -112,7 +111,7 @@ pub fn insert_entry(
     let root = words::total::word(table, 0);
     let slot = hang_leaf(table, label, value, trace);
     slots::set_label(limits, store, slot, label);
-    let top = turns::update::insert_along(table, trace.length, trace.path, root, slot);
+    let top = paths::insert_along(table, trace.length, trace.path, root, slot);
     rooted(table, top);
     slot
 }

@@ -2,7 +2,7 @@
 -- `Cleared`: the loop's invariant. `clear-starts`, `clear-goes-on`: it holds at first, and after each store.
 -- `clear-ends`: at the end it says that all is 0.
 use mathlib.Core.List.{List, [], _∷_, _++_}
-use mathlib.Core.Path.{_≡_, refl, sym, ap, _∙_}
+use mathlib.Core.Path.{_≡_, refl, ap, _∙_}
 use Prim.Native.Nat.{ℕ, zero, suc, _+_, _≤_, _<_}
 use native.Mathlib.Numerals.{add-one}
 use native.Mathlib.Omega.{arith}

@@ -1,3 +1,4 @@
 pub mod Clears
 pub mod Verdicts
 pub mod ViewLaws
+pub mod LayoutLaws

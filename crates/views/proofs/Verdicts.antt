@@ -1,29 +1,22 @@
 -- What an answer says of the lines of refusals before it.
--- `line-passed`: an answer that is done has passed each line. `either-false`: a test of two conditions that fails.
+-- `done-passed`: an answer that is done has passed them.
 -- `part-passed`, `part-refused`: the part and its start by a verdict that passed, and by one that refused.
 use mathlib.Core.List.{List, []}
-use mathlib.Core.Bool.{Bool, true, false, _||_}
 use mathlib.Core.Path.{_≡_, refl, sym}
 use Prim.Native.Nat.{ℕ}
-use native.Mathlib.Omega.{arith}
-use Rattle.types.specs.Answers.{Answer, done, refused}
-use Rattle.tables.specs.Outcomes.{Verdict, pass, refuse, line, answerBy, partBy}
+use Rattle.types.specs.Answers.{done, refused}
+use Rattle.tables.specs.Outcomes.{Verdict, pass, refuse, answerBy, partBy}
 use Rattle.views.specs.Parts.{startBy}
+use Rattle.labels.proofs.Clashes.{clash}
 
 -- no refusal is done
 done-not-refused : (number : ℕ) → done ≡ refused number → ⊥
-done-not-refused number e = let z : _≡_ {A = ℕ} 0 1 = cc in omega arith
+done-not-refused number e = clash cc
 
--- where the answer is done, the line's test failed, and the lines below say so too
-pub line-passed : (test : Bool) (number : ℕ) (below : Verdict) → done ≡ answerBy (line test number below) done
-    → (test ≡ false) × (done ≡ answerBy below done)
-line-passed true number below e = absurd (done-not-refused number e)
-line-passed false number below e = (refl, e)
-
--- where one of two conditions is looked for and the test fails, neither holds
-pub either-false : (a b : Bool) → (a || b) ≡ false → (a ≡ false) × (b ≡ false)
-either-false true b e = (e, absurd (let z : _≡_ {A = ℕ} 0 1 = cc in omega arith))
-either-false false b e = (refl, e)
+-- where the answer is done, the lines pass
+pub done-passed : (v : Verdict) → done ≡ answerBy v done → pass ≡ v
+done-passed pass e = refl
+done-passed (refuse number) e = absurd (done-not-refused number e)
 
 module _ (part : List ℕ) (start : ℕ) where
   -- where the answer is done, the part is the label's, at its start

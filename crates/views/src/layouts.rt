@@ -1,7 +1,7 @@
 // Layout: every word and byte is set to 0.
 use types::DoneAnswer;
 use types::Limits;
-use types::Refusal;
+use words::Early;
 ghost use mathlib.Core.Path.{_≡_};
 ghost use lib.ListN.{length, replicate};
 ghost use Rattle.types.specs.Answers.{doneSays};
@@ -38,15 +38,13 @@ pub fn layout_within(limits: Limits, table: &mut [u16], store: &mut [u8]) -> Don
         Gives (layoutOutcome limits (now (table .entry)) (now (store .entry)))
         (doneSays r) (now (table .exit)) (now (store .exit)) ⌝ }
 {
-    let table_len = 4 + 8 * limits.slots;
-    let store_len = limits.slots * limits.width;
-    if table.len() != table_len {
-        return DoneAnswer::Refused(Refusal::WrongTable);
+    let early = words::lengths::of_memory(limits, table, store);
+    match early {
+        Early::Refused(refusal) => DoneAnswer::Refused(refusal),
+        Early::Pass => {
+            clear_words(table);
+            clear_bytes(store);
+            DoneAnswer::Done
+        }
     }
-    if store.len() != store_len {
-        return DoneAnswer::Refused(Refusal::WrongStore);
-    }
-    clear_words(table);
-    clear_bytes(store);
-    DoneAnswer::Done
 }

@@ -5,26 +5,20 @@ pub mod layouts;
 use types::DoneAnswer;
 use types::Limits;
 use types::Refusal;
+use words::Early;
 ghost use mathlib.Core.Path.{_≡_};
-ghost use Rattle.types.specs.Answers.{doneSays};
-ghost use Rattle.tables.specs.Outcomes.{viewOutcome};
+ghost use lib.ListN.{length};
+ghost use Rattle.types.specs.Sizes.{tableLength};
+ghost use Rattle.types.specs.Answers.{done, doneSays};
+ghost use Rattle.tables.specs.Outcomes.{pass, answerBy, ofSlot, viewOutcome};
 ghost use Rattle.words.specs.Limits.{LimitsFit};
 ghost use Rattle.views.specs.Parts.{Views};
 
-// Whether the view of a slot is refused: by 1 and 2, or by 11 where the slot is 0 or too high,
-// or its length is.
-pub fn view_check_within(limits: Limits, table: &[u16], store: &[u8], slot: usize) -> DoneAnswer
-    requires { ⌜ LimitsFit limits ⌝ }
-    ensures { λ r. ⌜ doneSays r ≡ viewOutcome limits (now (table .entry)) (now (store .entry)) slot ⌝ }
+// Whether a slot is refused by 11: it is 0 or too high, or its length is.
+fn slot_check(limits: Limits, table: &[u16], slot: usize) -> DoneAnswer
+    requires { ⌜ length (now table) ≡ tableLength limits ⌝ }
+    ensures { λ r. ⌜ doneSays r ≡ answerBy (ofSlot limits (now (table .entry)) slot pass) done ⌝ }
 {
-    let table_len = 4 + 8 * limits.slots;
-    let store_len = limits.slots * limits.width;
-    if table.len() != table_len {
-        return DoneAnswer::Refused(Refusal::WrongTable);
-    }
-    if store.len() != store_len {
-        return DoneAnswer::Refused(Refusal::WrongStore);
-    }
     if slot == 0 {
         return DoneAnswer::Refused(Refusal::WrongSlot);
     }
@@ -41,6 +35,18 @@ pub fn view_check_within(limits: Limits, table: &[u16], store: &[u8], slot: usiz
     DoneAnswer::Done
 }
 
+// Whether the view of a slot is refused: by 1 and 2, or by 11.
+pub fn view_check_within(limits: Limits, table: &[u16], store: &[u8], slot: usize) -> DoneAnswer
+    requires { ⌜ LimitsFit limits ⌝ }
+    ensures { λ r. ⌜ doneSays r ≡ viewOutcome limits (now (table .entry)) (now (store .entry)) slot ⌝ }
+{
+    let early = words::lengths::of_memory(limits, table, store);
+    match early {
+        Early::Refused(refusal) => DoneAnswer::Refused(refusal),
+        Early::Pass => slot_check(limits, table, slot),
+    }
+}
+
 // The part of the lent store that holds the label of a slot;
 // where the first call refuses, the empty part at the store's start.
 pub fn view_within<'a>(limits: Limits, table: &[u16], store: &'a [u8], slot: usize) -> &'a [u8]
@@ -51,10 +57,5 @@ pub fn view_within<'a>(limits: Limits, table: &[u16], store: &'a [u8], slot: usi
     let DoneAnswer::Done = answer else {
         return &store[0..0];
     };
-    let row = words::read_row(table, slot);
-    let len = row.len as usize;
-    let width = limits.width;
-    let start = width * (slot - 1);
-    let end = start + len;
-    &store[start..end]
+    words::parts::held_label(limits, table, store, slot)
 }

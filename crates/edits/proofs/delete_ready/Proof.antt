@@ -1,6 +1,6 @@
 -- `edits::delete_ready` meets its contract: each return lands where the trace says.
-use Rattle.edits.proofs.Fits.{can-delete}
-use Rattle.edits.proofs.Gives.{delete-missing, delete-gone}
+use Rattle.endings.proofs.Fits.{can-delete}
+use Rattle.endings.proofs.Gives.{delete-missing, delete-gone}
 use borrow.Author.Needs.{needs}
 use Rattle.edits.proofs.delete_ready.Statement.{statement}
 use Rattle.edits.proofs.delete_ready.Tie as tie

@@ -1,5 +1,5 @@
 -- `edits::delete_within` meets its contract: refused by its first tests, or ready.
-use Rattle.edits.proofs.FirstTests.{refused-delete, ready}
+use Rattle.endings.proofs.FirstTests.{refused-delete, ready}
 use borrow.Author.Needs.{needs}
 use Rattle.edits.proofs.delete_within.Statement.{statement}
 use Rattle.edits.proofs.delete_within.Tie as tie

@@ -1,6 +1,6 @@
 -- `edits::insert_ready` meets its contract: each return lands where the trace says.
-use Rattle.edits.proofs.Fits.{can-insert}
-use Rattle.edits.proofs.Gives.{insert-held, insert-full, insert-new}
+use Rattle.endings.proofs.Fits.{can-insert}
+use Rattle.endings.proofs.Gives.{insert-held, insert-full, insert-new}
 use borrow.Author.Needs.{needs}
 use Rattle.edits.proofs.insert_ready.Statement.{statement}
 use Rattle.edits.proofs.insert_ready.Tie as tie

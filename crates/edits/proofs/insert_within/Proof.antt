@@ -1,5 +1,5 @@
 -- `edits::insert_within` meets its contract: refused by its first tests, or ready.
-use Rattle.edits.proofs.FirstTests.{refused-insert, ready}
+use Rattle.endings.proofs.FirstTests.{refused-insert, ready}
 use borrow.Author.Needs.{needs}
 use Rattle.edits.proofs.insert_within.Statement.{statement}
 use Rattle.edits.proofs.insert_within.Tie as tie

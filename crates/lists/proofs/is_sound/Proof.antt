@@ -1,7 +1,7 @@
 -- The test by walks is soundness.
 use borrow.Author.Needs.{needs}
 use mathlib.Core.Path.{_∙_}
-use Rattle.checks.proofs.SoundByWalks.{sound-by-walks}
+use Rattle.decides.proofs.SoundByWalks.{sound-by-walks}
 use Rattle.lists.proofs.is_sound.Statement.{statement}
 use Rattle.lists.proofs.is_sound.Tie as tie
 

@@ -1,3 +1,4 @@
+-- `words::read_row` meets its contract. The eight words read are the row.
 use borrow.Author.Needs.{needs}
 use mathlib.Core.Path.{refl}
 use Rattle.tables.specs.Words.{rowAt}

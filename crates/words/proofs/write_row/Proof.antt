@@ -1,3 +1,4 @@
+-- `words::write_row` meets its contract. The eight stores in turn store the row.
 use borrow.Author.Needs.{needs}
 use mathlib.Core.Path.{refl}
 use native.Mathlib.Omega.{arith}

@@ -9,11 +9,11 @@ use Rattle.checks.proofs.walks.check_chain.Statement.{statement}
 use Rattle.checks.proofs.walks.check_chain.Tie as tie
 
 abbrev Inv-loop : tie.InvT-loop
-Inv-loop limits table store high count link left₀ slot₀ left slot =
-    checkChain limits table store left slot ≡ checkChain limits table store count link
+Inv-loop limits table store high count link remaining₀ slot₀ remaining slot =
+    checkChain limits table store remaining slot ≡ checkChain limits table store count link
 
 abbrev μ-loop : tie.MeasureT-loop
-μ-loop limits table store high count link left₀ slot₀ left slot = left
+μ-loop limits table store high count link remaining₀ slot₀ remaining slot = remaining
 
 loop-holds : tie.Need-loop-holds Inv-loop μ-loop
 loop-holds c = refl
@@ -36,8 +36,8 @@ returns-3 c = search (chain-broken, not-true)
 cast-slot : tie.Need-cast-slot Inv-loop μ-loop
 cast-slot c = search needs
 
-sub-left : tie.Need-sub-left Inv-loop μ-loop
-sub-left c = search needs
+sub-remaining : tie.Need-sub-remaining Inv-loop μ-loop
+sub-remaining c = search needs
 
 loop-less : tie.Need-loop-less Inv-loop μ-loop
 loop-less c = search needs
@@ -61,7 +61,7 @@ check-chain-spec =
     freed-row-requires
     returns-3
     cast-slot
-    sub-left
+    sub-remaining
     loop-less
     loop-again
     returns-4)

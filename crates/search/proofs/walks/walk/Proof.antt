@@ -15,12 +15,12 @@ use Rattle.search.proofs.walks.walk.Statement.{statement}
 use Rattle.search.proofs.walks.walk.Tie as tie
 
 abbrev Inv-loop : tie.InvT-loop
-Inv-loop limits table store label root link₀ left₀ places₀ ends₀ link left places ends =
+Inv-loop limits table store label root link₀ remaining₀ places₀ ends₀ link remaining places ends =
     Reached limits table store label (walkAnswer (steps limits table store label (limits .depth) root 1 1))
-    link left places ends
+    link remaining places ends
 
 abbrev μ-loop : tie.MeasureT-loop
-μ-loop limits table store label root link₀ left₀ places₀ ends₀ link left places ends = left
+μ-loop limits table store label root link₀ remaining₀ places₀ ends₀ link remaining places ends = remaining
 
 -- what is known at a node whose row is read
 module _ (c : tie.After-read-row Inv-loop μ-loop) where
@@ -33,7 +33,7 @@ module _ (c : tie.After-read-row Inv-loop μ-loop) where
   abbrev tested : tie.Else1 Inv-loop μ-loop
   tested = c .before
 
-  node : Live (start .args .limits) (start .args .table .now) (reached .loop .link) (reached .loop .left)
+  node : Live (start .args .limits) (start .args .table .now) (reached .loop .link) (reached .loop .remaining)
   node = live _ _ _ _ _ (tested .before .halts .ensures) (tested .if1 .left)
 
   slot : AtRow (start .args .limits) (start .args .store .now) (reached .loop .link) (c .read-row .result)
@@ -172,8 +172,8 @@ son-requires c κs = search needs
 cast-link : tie.Need-cast-link Inv-loop μ-loop
 cast-link c = search needs
 
-sub-left : tie.Need-sub-left Inv-loop μ-loop
-sub-left c = let room = node (read (c .before .before)) .room in omega arith
+sub-remaining : tie.Need-sub-remaining Inv-loop μ-loop
+sub-remaining c = let room = node (read (c .before .before)) .room in omega arith
 
 loop-less : tie.Need-loop-less Inv-loop μ-loop
 loop-less c = let room = node (read (c .before .before)) .room in omega arith
@@ -218,6 +218,6 @@ walk-spec =
     array-write-ends-2
     son-requires
     cast-link
-    sub-left
+    sub-remaining
     loop-less
     loop-again)

@@ -9,8 +9,8 @@ use Rattle.turns.proofs.rotate.lean.Tie as tie
 row-on-requires : tie.Need-row-on-requires
 row-on-requires c κs = search needs
 
-relinked-requires : tie.Need-relinked-requires
-relinked-requires c κs = search needs
+linked-row-requires : tie.Need-linked-row-requires
+linked-row-requires c κs = search needs
 
 put-on-requires : tie.Need-put-on-requires
 put-on-requires c κs = search needs
@@ -24,10 +24,10 @@ returns c =
     let put = c .before .before in
     let far = put .before .before .before in
     simp (← far .before .before .row-on .ensures, eq-eqb _ _ (far .if1 .taken))
-    (record { stored = simp (put .before .relinked .ensures) at (put .put-on .ensures); handed = refl })
+    (record { stored = simp (put .before .linked-row .ensures) at (put .put-on .ensures); handed = refl })
 
-relinked-requires-2 : tie.Need-relinked-requires-2
-relinked-requires-2 c κs = search needs
+linked-row-requires-2 : tie.Need-linked-row-requires-2
+linked-row-requires-2 c κs = search needs
 
 put-on-requires-2 : tie.Need-put-on-requires-2
 put-on-requires-2 c κs = search needs
@@ -42,7 +42,7 @@ returns-2 c =
     let even = put .before .before .before in
     let near = even .before .before in
     simp (← near .before .before .row-on .ensures, ne-eqb _ _ (near .if1 .left), eq-eqb _ _ (even .if2 .taken))
-    (record { stored = simp (put .before .relinked2 .ensures) at (put .put-on2 .ensures); handed = refl })
+    (record { stored = simp (put .before .linked-row2 .ensures) at (put .put-on2 .ensures); handed = refl })
 
 turn-requires : tie.Need-turn-requires
 turn-requires c κs = search needs
@@ -64,11 +64,11 @@ lean-spec =
     tie.close
     (tie.spec
     row-on-requires
-    relinked-requires
+    linked-row-requires
     put-on-requires
     same-length
     returns
-    relinked-requires-2
+    linked-row-requires-2
     put-on-requires-2
     same-length-2
     returns-2

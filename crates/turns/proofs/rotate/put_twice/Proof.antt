@@ -25,7 +25,19 @@ same-length : tie.Need-same-length
 same-length c = search needs
 
 returns : tie.Need-returns
-returns c = cc
+returns c =
+    let third = c .before .before in
+    let top = third .before in
+    let second = top .before .before .before .before in
+    let inner = second .before in
+    let first = inner .before .before .before .before in
+    simp (
+      top .top-twice .ensures,
+      second .put-on2 .ensures,
+      inner .inner-twice .ensures,
+      first .put-on .ensures,
+      first .before .outer-twice .ensures,
+    ) at (third .put-on3 .ensures)
 
 pub put-twice-spec : {M : Type 1} → statement M
 put-twice-spec =

@@ -1,5 +1,6 @@
 -- `turns::rotate::turn_once` meets its contract. The two rows stored are those of the definition.
 use Rattle.turns.specs.Turns.{turnOnce}
+use mathlib.Core.Path.{refl}
 use borrow.Author.Needs.{needs}
 use Rattle.turns.proofs.rotate.turn_once.Statement.{statement}
 use Rattle.turns.proofs.rotate.turn_once.Tie as tie
@@ -27,7 +28,22 @@ same-length c = search needs
 
 returns : tie.Need-returns
 unfolding turnOnce
-returns c = record { stored = cc; handed = cc }
+returns c =
+    let put = c .before .before .before in
+    let high = put .before in
+    let first = high .before .before .before .before in
+    let low = first .before in
+    let son = low .before .before in
+    record {
+      stored = simp (
+        high .high-once .ensures,
+        first .put-on .ensures,
+        low .low-once .ensures,
+        son .row-on2 .ensures,
+        son .before .before .row-on .ensures,
+      ) at (put .put-on2 .ensures);
+      handed = simp (son .row-on2 .ensures, son .before .before .row-on .ensures) refl;
+    }
 
 pub turn-once-spec : {M : Type 1} → statement M
 turn-once-spec =

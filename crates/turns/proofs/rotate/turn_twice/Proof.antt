@@ -1,5 +1,6 @@
 -- `turns::rotate::turn_twice` meets its contract. The three rows read are those of the definition.
 use Rattle.turns.specs.Turns.{turnTwice}
+use mathlib.Core.Path.{refl}
 use borrow.Author.Needs.{needs}
 use Rattle.turns.proofs.rotate.turn_twice.Statement.{statement}
 use Rattle.turns.proofs.rotate.turn_twice.Tie as tie
@@ -21,7 +22,15 @@ same-length c = search needs
 
 returns : tie.Need-returns
 unfolding turnTwice
-returns c = record { stored = cc; handed = cc }
+returns c =
+    let put = c .before .before in
+    let middle = put .before .before in
+    let son = middle .before .before in
+    record {
+      stored = simp (middle .row-on3 .ensures, son .row-on2 .ensures, son .before .before .row-on .ensures)
+          at (put .put-twice .ensures);
+      handed = simp (son .row-on2 .ensures, son .before .before .row-on .ensures) refl;
+    }
 
 pub turn-twice-spec : {M : Type 1} → statement M
 turn-twice-spec =

@@ -20,13 +20,19 @@ same-length c = search needs
 
 returns : tie.Need-returns
 returns c =
-    simp (c .before .before .before .before .if1 .taken) (cc)
+    let counted = c .before .before in
+    let none = counted .before .before in
+    let freed = none .before .before .before in
+    simp (none .if1 .taken) (simp (freed .free-slot .ensures) at (counted .set-count .ensures))
 
 same-length-2 : tie.Need-same-length-2
 same-length-2 c = search needs
 
 returns-2 : tie.Need-returns-2
-returns-2 c = cc
+returns-2 c =
+    let counted = c .before .before in
+    let freed = counted .before .before .before .before .before in
+    simp (freed .free-slot .ensures) at (counted .set-count2 .ensures)
 
 pub count-out-spec : {M : Type 1} → statement M
 count-out-spec =

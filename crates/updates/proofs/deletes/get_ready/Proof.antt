@@ -1,7 +1,7 @@
 -- `updates::deletes::get_ready` meets its contract: the root's place, then the nodes around.
 use mathlib.Core.Path.{ap, _∙_}
-use Rattle.updates.proofs.RowsFits.{rows-fit-root-placed}
-use Rattle.updates.specs.Renewals.{renewedAround}
+use Rattle.renewals.proofs.RowsFits.{rows-fit-root-placed}
+use Rattle.renewals.specs.Renewals.{renewedAround}
 use borrow.Author.Needs.{needs}
 use Rattle.updates.proofs.deletes.get_ready.Statement.{statement}
 use Rattle.updates.proofs.deletes.get_ready.Tie as tie

@@ -21,8 +21,10 @@ same-length c = search needs
 returns : tie.Need-returns
 returns c =
     let counted = c .before .before in
-    let taken = counted .before .before .before .before in
-    (taken .take-slot .ensures .0, (cc))
+    let taken = counted .before .before .before .before in (
+      taken .take-slot .ensures .0,
+      simp (taken .take-slot .ensures .1, taken .before .before .word .ensures) at (counted .set-count .ensures),
+    )
 
 pub count-in-spec : {M : Type 1} → statement M
 count-in-spec =

@@ -21,8 +21,11 @@ unfolding withLeaf
 returns c =
     let placed = c .before .before in
     let hung = placed .before .before .before .before in
-    let slot = hung .before .before .before .before in
-    (slot .count-in .ensures .0, (cc))
+    let slot = hung .before .before .before .before in (
+      slot .count-in .ensures .0,
+      simp (hung .put-leaf .ensures, slot .count-in .ensures .1, slot .count-in .ensures .0)
+          at (placed .set-root-place .ensures),
+    )
 
 pub hang-leaf-spec : {M : Type 1} → statement M
 hang-leaf-spec =

@@ -1,6 +1,6 @@
 -- `updates::inserts::insert_entry` meets its contract: the leaf, its label, the tree in balance, the root.
 use mathlib.Core.Path.{ap, _∙_}
-use Rattle.updates.specs.Slots.{withLabel}
+use Rattle.slots.specs.Slots.{withLabel}
 use Rattle.updates.proofs.UpdateLaws.{inserted-in-turn}
 use borrow.Author.Needs.{needs}
 use Rattle.updates.proofs.inserts.insert_entry.Statement.{statement}

@@ -4,14 +4,14 @@ use borrow.Author.Needs.{needs}
 use Rattle.updates.proofs.inserts.leaf_fields.Statement.{statement}
 use Rattle.updates.proofs.inserts.leaf_fields.Tie as tie
 
-cast-fields-by : tie.Need-cast-fields-by
-cast-fields-by c = search needs
+cast-by-differences : tie.Need-cast-by-differences
+cast-by-differences c = search needs
 
-cast-fields-by-2 : tie.Need-cast-fields-by-2
-cast-fields-by-2 c = search needs
+cast-by-differences-2 : tie.Need-cast-by-differences-2
+cast-by-differences-2 c = search needs
 
-fields-by-requires : tie.Need-fields-by-requires
-fields-by-requires c κs = search needs
+by-differences-requires : tie.Need-by-differences-requires
+by-differences-requires c κs = search needs
 
 returns : tie.Need-returns
 returns c = search leaf-alone
@@ -29,9 +29,9 @@ pub leaf-fields-spec : {M : Type 1} → statement M
 leaf-fields-spec =
     tie.close
     (tie.spec
-    cast-fields-by
-    cast-fields-by-2
-    fields-by-requires
+    cast-by-differences
+    cast-by-differences-2
+    by-differences-requires
     returns
     returns-2
     returns-3

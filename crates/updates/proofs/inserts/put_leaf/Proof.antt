@@ -16,7 +16,7 @@ same-length : tie.Need-same-length
 same-length c = search needs
 
 returns : tie.Need-returns
-returns c = cc
+returns c = let put = c .before .before in simp (put .before .before .leaf-fields .ensures) at (put .put-row .ensures)
 
 pub put-leaf-spec : {M : Type 1} → statement M
 put-leaf-spec =

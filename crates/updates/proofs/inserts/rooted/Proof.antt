@@ -13,7 +13,10 @@ same-length : tie.Need-same-length
 same-length c = search needs
 
 returns : tie.Need-returns
-returns c = cc
+returns c =
+    let placed = c .before .before in
+    let linked = placed .before .before .before .before in
+    simp (linked .set-word .ensures) at (placed .set-root-place .ensures)
 
 pub rooted-spec : {M : Type 1} → statement M
 rooted-spec = tie.close (tie.spec set-word-requires set-root-place-requires same-length returns)

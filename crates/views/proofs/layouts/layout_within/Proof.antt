@@ -1,28 +1,17 @@
--- Each return by the tests that led to it; the stores by what the two loops ensure.
-use native.Mathlib.Omega.{arith}
+-- `views::layouts::layout_within` meets its contract: refused by the lent lengths, or what the two loops ensure.
+use Rattle.views.proofs.LayoutLaws.{layout-refused, layout-done}
 use borrow.Author.Needs.{needs}
-use Rattle.tables.specs.Outcomes.{layoutOutcome}
-use Rattle.words.proofs.Sizes.{store-small}
-use Rattle.labels.proofs.Branches.{branches}
 use Rattle.views.proofs.layouts.layout_within.Statement.{statement}
 use Rattle.views.proofs.layouts.layout_within.Tie as tie
 
-mul-table-len : tie.Need-mul-table-len
-mul-table-len c = search needs
+of-memory-requires : tie.Need-of-memory-requires
+of-memory-requires c κs = search needs
 
-add-table-len : tie.Need-add-table-len
-add-table-len c = search needs
+enum-known-early : tie.Need-enum-known-early
+enum-known-early c = search needs
 
-mul-store-len : tie.Need-mul-store-len
-mul-store-len c = omega (arith, store-small)
-
-returns : tie.Need-returns
-unfolding layoutOutcome
-returns c = search branches
-
-returns-2 : tie.Need-returns-2
-unfolding layoutOutcome
-returns-2 c = search branches
+enum-told : tie.Need-enum-told
+enum-told c = search needs
 
 clear-words-requires : tie.Need-clear-words-requires
 clear-words-requires c κs = search needs
@@ -36,21 +25,30 @@ same-length c = search needs
 same-length-2 : tie.Need-same-length-2
 same-length-2 c = search needs
 
-returns-3 : tie.Need-returns-3
-unfolding layoutOutcome
-returns-3 c = search branches
+returns : tie.Need-returns
+returns c = search layout-refused
+
+same-length-3 : tie.Need-same-length-3
+same-length-3 c = search needs
+
+same-length-4 : tie.Need-same-length-4
+same-length-4 c = search needs
+
+returns-2 : tie.Need-returns-2
+returns-2 c = search layout-done
 
 pub layout-within-spec : {M : Type 1} → statement M
 layout-within-spec =
     tie.close
     (tie.spec
-    mul-table-len
-    add-table-len
-    mul-store-len
-    returns
-    returns-2
+    of-memory-requires
+    enum-known-early
+    enum-told
     clear-words-requires
     clear-bytes-requires
     same-length
     same-length-2
-    returns-3)
+    returns
+    same-length-3
+    same-length-4
+    returns-2)

@@ -1,0 +1,9 @@
+pub mod SonTests
+pub mod OnceEach
+pub mod TreeWalks
+pub mod FineTrees
+pub mod FreeChains
+pub mod ChainWalks
+pub mod AllottedSlots
+pub mod WalksPass
+pub mod SoundByWalks

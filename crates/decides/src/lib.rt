@@ -1,0 +1,1 @@
+// The walks of the soundness test decide soundness: laws, no code.

@@ -1,0 +1,3 @@
+pub mod RowsFits
+pub mod RenewalLaws
+pub mod SpineLaws

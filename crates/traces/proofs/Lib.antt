@@ -1,0 +1,5 @@
+pub mod TraceSteps
+pub mod StepBounds
+pub mod PathBounds
+pub mod TraceBounds
+pub mod TraceNeeds
