@@ -1,4 +1,7 @@
 // The two bounds on a search's counts.
+use crate::memory;
+use crate::memory::Image;
+use crate::packing;
 use std::num::wrapping_add_usize;
 
 // The nodes of the smallest height-balanced tree of a height.
@@ -13,13 +16,14 @@ pub fn smallest(height: usize) -> usize {
     nodes
 }
 
-// Whether a search of a label among `held` labels may visit and examine so many.
-pub fn within(held: usize, len: usize, visits: usize, places: usize) -> bool {
-    if visits > 12 {
+// Whether a search of a label of so many bytes may visit and examine as many as its answer says.
+pub fn hold(image: &Image, len: usize, answer: usize) -> bool {
+    let visits = packing::visits(answer);
+    if visits > memory::entry(image, memory::DEPTH) {
         return false;
     }
-    if smallest(visits) > held {
+    if smallest(visits) > memory::word(image, memory::HELD) {
         return false;
     }
-    places <= wrapping_add_usize(len, visits)
+    packing::places(answer) <= wrapping_add_usize(len, visits)
 }

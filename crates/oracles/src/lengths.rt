@@ -1,25 +1,30 @@
-// The lengths of the memory lent: a table of 4 words and 8 for each of 512 slots, and a store of 64 bytes for each.
-pub struct Lent {
-    pub words: usize,
-    pub bytes: usize,
-}
+// Refusals by lengths: a table of 4 words and 8 for each slot, a store of as many bytes for each slot as a label may
+// have, a label of 1 to as many.
+use crate::memory;
+use crate::memory::Image;
+use std::num::wrapping_add_usize;
 
 // The number that refuses memory by its lengths, the table's before the store's; or 0.
-pub fn lent_refusal(lent: Lent) -> usize {
-    if lent.words != 4 + 8 * 512 {
+pub fn lent_refusal(image: &Image) -> usize {
+    let slots = memory::entry(image, memory::SLOTS);
+    if memory::entry(image, memory::WORDS) != 4 + 8 * (slots % 513) {
         return 1;
     }
-    if lent.bytes != 64 * 512 {
+    if memory::entry(image, memory::BYTES)
+        != memory::part_start(image, wrapping_add_usize(slots, 1))
+    {
         return 2;
     }
     0
 }
 
 // The number that refuses a label by its length; or 0.
-pub fn label_refusal(len: usize) -> usize {
-    match len {
-        0 => 3,
-        1..=64 => 0,
-        _ => 4,
+pub fn label_refusal(image: &Image, len: usize) -> usize {
+    if len == 0 {
+        return 3;
     }
+    if len > memory::entry(image, memory::WIDTH) {
+        return 4;
+    }
+    0
 }

@@ -1,7 +1,41 @@
-// The words and bytes lent, and the numbers at the places of their labels.
-pub type Table = [u16; 4100];
+// The memory lent to a call, in one array: the sizes of the index that is called, the lengths lent, the words of the
+// table, those of a list, and the bytes of the store. What lies outside reads as 0 and is never written.
+pub type Image = [u16; 37391];
 
-pub type Store = [u8; 32768];
+// The words and bytes of an image, as they are lent: one more of each than the hub's, and one more than it has slots.
+pub type Words = [u16; 4101];
+
+pub type List = [u16; 513];
+
+pub type Bytes = [u8; 32769];
+
+// How many words of the table, bytes of the store and words of the list are lent.
+pub struct Lent {
+    pub words: usize,
+    pub bytes: usize,
+    pub room: usize,
+}
+
+// The sizes: slots, bytes of a label, nodes on a path.
+pub const SLOTS: usize = 0;
+
+pub const WIDTH: usize = 1;
+
+pub const DEPTH: usize = 2;
+
+// The lengths lent: words of the table, bytes of the store, words of the list.
+pub const WORDS: usize = 3;
+
+pub const BYTES: usize = 4;
+
+pub const ROOM: usize = 5;
+
+// Where the words of the table, those of the list and the bytes of the store begin.
+pub const TABLE: usize = 8;
+
+pub const LIST: usize = 4109;
+
+pub const STORE: usize = 4622;
 
 // The words of the table's head.
 pub const ROOT: usize = 0;
@@ -33,48 +67,166 @@ fn wide(x: u16) -> usize {
     x as usize
 }
 
-pub fn word(table: &Table, i: usize) -> usize {
-    if i < 4100 {
-        return wide(table[i]);
+// Entry `i` of an image.
+pub fn entry(image: &Image, i: usize) -> usize {
+    if i < 37391 {
+        return wide(image[i]);
+    }
+    0
+}
+
+pub fn put(image: &mut Image, i: usize, x: usize) {
+    if i < 37391 {
+        image[i] = (x % 65536) as u16;
+    }
+}
+
+// Word `i` of the table.
+pub fn word(image: &Image, i: usize) -> usize {
+    if i < 4101 {
+        return entry(image, TABLE + i);
     }
     0
 }
 
 // Word `j` of a slot.
-pub fn field(table: &Table, slot: usize, j: usize) -> usize {
+pub fn field(image: &Image, slot: usize, j: usize) -> usize {
     if slot > 0 {
         if slot < 513 {
             if j < 8 {
-                return word(table, 8 * slot + j - 4);
+                return word(image, 8 * slot + j - 4);
             }
         }
     }
     0
+}
+
+// Where the bytes of a slot begin in the store.
+pub fn part_start(image: &Image, slot: usize) -> usize {
+    times(std::num::wrapping_sub_usize(slot, 1), entry(image, WIDTH))
+}
+
+fn times(slots: usize, width: usize) -> usize {
+    slots % 513 * (width % 65)
 }
 
 // Byte `j` of a slot.
-pub fn byte(store: &Store, slot: usize, j: usize) -> u8 {
+pub fn byte(image: &Image, slot: usize, j: usize) -> usize {
     if slot > 0 {
-        if slot < 513 {
-            if j < 64 {
-                return store[64 * slot + j - 64];
-            }
+        if j < 64 {
+            return store_byte(
+                image,
+                std::num::wrapping_add_usize(part_start(image, slot), j),
+            );
         }
     }
     0
 }
 
-fn byte_number(byte: u8) -> usize {
-    byte as usize + 1
+// Byte `i` of the store.
+pub fn store_byte(image: &Image, i: usize) -> usize {
+    if i < 32769 {
+        return entry(image, STORE + i);
+    }
+    0
 }
 
 // The number at a place of a slot's label.
-pub fn number_at(table: &Table, store: &Store, slot: usize, place: usize) -> usize {
+pub fn number_at(image: &Image, slot: usize, place: usize) -> usize {
     if place == 0 {
         return 0;
     }
-    if place > field(table, slot, LENGTH) {
+    if place > field(image, slot, LENGTH) {
         return 0;
     }
-    byte_number(byte(store, slot, place - 1))
+    std::num::wrapping_add_usize(byte(image, slot, place - 1), 1)
+}
+
+// Whether two images are the same.
+pub fn same(one: &Image, other: &Image) -> bool {
+    unlike(one, other) == 0
+}
+
+// How many entries of two images differ.
+pub fn unlike(one: &Image, other: &Image) -> usize {
+    let mut count = 0usize;
+    for i in 0..37391usize {
+        if one[i] != other[i] {
+            count = std::num::wrapping_add_usize(count, 1);
+        }
+    }
+    count
+}
+
+pub fn lengths(image: &Image) -> Lent {
+    Lent {
+        words: entry(image, WORDS),
+        bytes: entry(image, BYTES),
+        room: entry(image, ROOM),
+    }
+}
+
+pub fn words_of(image: &Image) -> Words {
+    let mut words = [0u16; 4101];
+    for i in 0..4101usize {
+        words[i] = image[8 + i];
+    }
+    words
+}
+
+pub fn bytes_of(image: &Image) -> Bytes {
+    let mut bytes = [0u8; 32769];
+    for i in 0..32769usize {
+        bytes[i] = (image[4622 + i] % 256) as u8;
+    }
+    bytes
+}
+
+pub fn list_of(image: &Image) -> List {
+    let mut list = [0u16; 513];
+    for i in 0..513usize {
+        list[i] = image[4109 + i];
+    }
+    list
+}
+
+pub fn put_back(image: &mut Image, words: &Words, bytes: &Bytes) {
+    put_words(image, words);
+    put_bytes(image, bytes);
+}
+
+fn put_words(image: &mut Image, words: &Words) {
+    for i in 0..4101usize {
+        image[8 + i] = words[i];
+    }
+}
+
+fn widened(x: u8) -> u16 {
+    x as u16
+}
+
+fn put_bytes(image: &mut Image, bytes: &Bytes) {
+    for i in 0..32769usize {
+        image[4622 + i] = widened(bytes[i]);
+    }
+}
+
+pub fn put_list(image: &mut Image, list: &List) {
+    for i in 0..513usize {
+        image[4109 + i] = list[i];
+    }
+}
+
+// The memory of an index of so many slots, labels of so many bytes and paths of so many nodes: no word and no byte but
+// 0, the whole of it lent, and a list of 513 words, none of which is a slot.
+pub fn fresh(slots: usize, width: usize, depth: usize) -> Image {
+    let mut image = [0u16; 37391];
+    put(&mut image, SLOTS, slots);
+    put(&mut image, WIDTH, width);
+    put(&mut image, DEPTH, depth);
+    put(&mut image, WORDS, 4 + 8 * (slots % 513));
+    put(&mut image, BYTES, times(slots, width));
+    put(&mut image, ROOM, 513);
+    put_list(&mut image, &[65535u16; 513]);
+    image
 }

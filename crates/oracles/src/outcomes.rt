@@ -1,132 +1,155 @@
-// What each call says on memory of any lengths and content. The table and store are the content of memory that has the
-// right lengths; of other memory nothing is read.
-use crate::Answer;
+// What each call says and leaves on memory of any lengths and content; of an update that is not refused, what it says.
 use crate::lengths;
-use crate::lengths::Lent;
 use crate::listings;
-use crate::listings::List;
 use crate::memory;
-use crate::memory::Store;
-use crate::memory::Table;
-use crate::refused;
+use crate::memory::Image;
+use crate::packing;
+use crate::packing::refused;
 use crate::sound;
 use crate::steps;
+use samples::calls::CHECK;
+use samples::calls::DELETE;
+use samples::calls::INSERT;
+use samples::calls::LAYOUT;
+use samples::calls::LISTING;
+use samples::calls::SEARCH;
+use samples::calls::VIEW;
+use samples::calls::VIEW_CHECK;
 use std::num::wrapping_add_usize;
 
-pub fn search(lent: Lent, table: &Table, store: &Store, label: &[u8]) -> Answer {
-    let why = lengths_refusal(lent, label.len());
+// Makes a call on a label or a slot. The bytes of the view's part are left in the list.
+pub fn judge(image: &mut Image, call: usize, label: &[u8], slot: usize) -> usize {
+    if call == VIEW {
+        return view(image, slot);
+    }
+    let why = lengths::lent_refusal(image);
     if why > 0 {
         return refused(why);
     }
-    steps::search(table, store, label)
-}
-
-fn lengths_refusal(lent: Lent, len: usize) -> usize {
-    let why = lengths::lent_refusal(lent);
-    if why > 0 {
-        return why;
+    match call {
+        LISTING => list(image),
+        LAYOUT => lay_out(image),
+        CHECK => done(soundness_refusal(image)),
+        VIEW_CHECK => done(view_refusal(image, slot)),
+        _ => answer(image, call, label),
     }
-    lengths::label_refusal(len)
 }
 
-// The number that refuses an update before its search, or 0.
-fn update_refusal(lent: Lent, table: &Table, store: &Store, len: usize) -> usize {
-    let why = lengths_refusal(lent, len);
-    if why > 0 {
-        return why;
+// The answer of a search or an update on memory of the right lengths.
+fn answer(image: &Image, call: usize, label: &[u8]) -> usize {
+    if call != SEARCH {
+        if lengths::label_refusal(image, label.len()) == 0 {
+            if !sound::is_sound(image) {
+                return refused(6);
+            }
+        }
     }
-    check(lent, table, store)
+    on_sound(image, call, label)
 }
 
-pub fn insert(lent: Lent, table: &Table, store: &Store, label: &[u8]) -> Answer {
-    let why = update_refusal(lent, table, store, label.len());
+// The answer of a search, or of an update on memory that is sound.
+pub fn on_sound(image: &Image, call: usize, label: &[u8]) -> usize {
+    let why = lengths::label_refusal(image, label.len());
     if why > 0 {
         return refused(why);
     }
-    let met = steps::search(table, store, label);
-    if met.slot > 0 {
+    let met = steps::search(image, label);
+    match call {
+        INSERT => inserted(image, met),
+        DELETE => deleted(met),
+        _ => met,
+    }
+}
+
+fn inserted(image: &Image, met: usize) -> usize {
+    if packing::kind(met) == packing::FOUND {
         return refused(7);
     }
-    if memory::word(table, memory::HELD) > 511 {
+    if memory::word(image, memory::HELD) >= memory::entry(image, memory::SLOTS) {
         return refused(9);
     }
-    updated(new_slot(table), met)
+    packing::updated(new_slot(image), met)
 }
 
-pub fn delete(lent: Lent, table: &Table, store: &Store, label: &[u8]) -> Answer {
-    let why = update_refusal(lent, table, store, label.len());
-    if why > 0 {
-        return refused(why);
-    }
-    let met = steps::search(table, store, label);
-    if met.slot == 0 {
-        return refused(8);
-    }
-    updated(met.slot, met)
-}
-
-fn new_slot(table: &Table) -> usize {
-    let freed = memory::word(table, memory::FREE);
+fn new_slot(image: &Image) -> usize {
+    let freed = memory::word(image, memory::FREE);
     if freed > 0 {
         return freed;
     }
-    wrapping_add_usize(memory::word(table, memory::MARK), 1)
+    wrapping_add_usize(memory::word(image, memory::MARK), 1)
 }
 
-fn updated(slot: usize, met: Answer) -> Answer {
-    let mut answer = met;
-    answer.slot = slot;
-    answer.value = 0;
-    answer
-}
-
-// The number of the layout.
-pub fn layout(lent: Lent) -> usize {
-    lengths::lent_refusal(lent)
-}
-
-// The number of the soundness check.
-pub fn check(lent: Lent, table: &Table, store: &Store) -> usize {
-    let why = lengths::lent_refusal(lent);
-    if why > 0 {
-        return why;
+fn deleted(met: usize) -> usize {
+    if packing::kind(met) == packing::ABSENT {
+        return refused(8);
     }
-    if sound::is_sound(table, store) {
+    packing::updated(packing::one(met), met)
+}
+
+fn soundness_refusal(image: &Image) -> usize {
+    if sound::is_sound(image) {
         return 0;
     }
     6
 }
 
-// The number of a listing into a list with `room` words, which gets the slots where it is 0.
-pub fn listing(lent: Lent, table: &Table, store: &Store, list: &mut List, room: usize) -> usize {
-    let why = check(lent, table, store);
+// Done, or refused by a number.
+fn done(why: usize) -> usize {
     if why > 0 {
-        return why;
+        return refused(why);
     }
-    let held = memory::word(table, memory::HELD);
-    if held > room {
-        return 10;
-    }
-    listings::write(table, list, held);
-    0
+    packing::plain(packing::DONE, 0)
 }
 
-// The number of the view's first call.
-pub fn view(lent: Lent, table: &Table, slot: usize) -> usize {
-    let why = lengths::lent_refusal(lent);
+fn lay_out(image: &mut Image) -> usize {
+    clear(image, memory::TABLE, memory::LIST);
+    clear(image, memory::STORE, 37391);
+    done(0)
+}
+
+fn clear(image: &mut Image, from: usize, to: usize) {
+    for i in from..to {
+        memory::put(image, i, 0);
+    }
+}
+
+fn list(image: &mut Image) -> usize {
+    let why = soundness_refusal(image);
+    if why > 0 {
+        return refused(why);
+    }
+    let held = memory::word(image, memory::HELD);
+    if held > memory::entry(image, memory::ROOM) {
+        return refused(10);
+    }
+    listings::write(image, held);
+    packing::plain(packing::LISTED, held)
+}
+
+// The number that refuses the view of a slot, or 0.
+fn view_refusal(image: &Image, slot: usize) -> usize {
+    let why = lengths::lent_refusal(image);
     if why > 0 {
         return why;
     }
-    if lengths::label_refusal(memory::field(table, slot, memory::LENGTH)) > 0 {
+    if slot > memory::entry(image, memory::SLOTS) {
+        return 11;
+    }
+    if lengths::label_refusal(image, memory::field(image, slot, memory::LENGTH)) > 0 {
         return 11;
     }
     0
 }
 
-// How many bytes the view's part has.
-pub fn view_length(lent: Lent, table: &Table, slot: usize) -> usize {
-    if view(lent, table, slot) > 0 {
-        return 0;
+// The bytes of a slot's label, none where the view is refused.
+fn view(image: &mut Image, slot: usize) -> usize {
+    if view_refusal(image, slot) > 0 {
+        return packing::plain(packing::VIEWED, 0);
     }
-    memory::field(table, slot, memory::LENGTH)
+    let len = memory::field(image, slot, memory::LENGTH);
+    for j in 0..len {
+        let byte = memory::byte(image, slot, j);
+        memory::put(image, wrapping_add_usize(memory::LIST, j), byte);
+    }
+    packing::plain(packing::VIEWED, len)
 }

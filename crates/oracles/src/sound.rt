@@ -2,8 +2,7 @@
 // from the last node back to the root, and what is left must be the free chain and slots that are all zero.
 use crate::lengths::label_refusal;
 use crate::memory;
-use crate::memory::Store;
-use crate::memory::Table;
+use crate::memory::Image;
 use plainmap::lists;
 use plainmap::lists::Lists;
 use std::num::wrapping_add_usize;
@@ -19,58 +18,58 @@ const MET: usize = 3;
 
 const HEIGHT: usize = 4;
 
-pub fn is_sound(table: &Table, store: &Store) -> bool {
+pub fn is_sound(image: &Image) -> bool {
     let mut work = [0u16; 35397];
-    if memory::word(table, memory::MARK) > 512 {
+    if memory::word(image, memory::MARK) > memory::entry(image, memory::SLOTS) {
         return false;
     }
-    let count = read_tree(table, &mut work);
-    if count != memory::word(table, memory::HELD) {
+    let count = read_tree(image, &mut work);
+    if count != memory::word(image, memory::HELD) {
         return false;
     }
     if count > 512 {
         return false;
     }
-    if !nodes_hold(table, store, &work, count) {
+    if !nodes_hold(image, &work, count) {
         return false;
     }
-    if !heights_hold(table, &mut work, count) {
+    if !heights_hold(image, &mut work, count) {
         return false;
     }
-    if !chain_holds(table, store, &mut work, count) {
+    if !chain_holds(image, &mut work, count) {
         return false;
     }
-    rest_is_zero(table, store)
+    rest_is_zero(image)
 }
 
 // Reads the tree into the lists, and gives the number of its nodes; 513 where its links give none.
-pub fn read_tree(table: &Table, work: &mut Lists) -> usize {
-    let mut count = join(table, work, 0, memory::word(table, memory::ROOT), 0, 0);
+pub fn read_tree(image: &Image, work: &mut Lists) -> usize {
+    let mut count = join(image, work, 0, memory::word(image, memory::ROOT), 0, 0);
     for i in 0..512 {
         if i < count {
             let slot = lists::get(work, QUEUE, i);
-            count = join_sons(table, work, count, slot);
+            count = join_sons(image, work, count, slot);
         }
     }
     count
 }
 
-fn join_sons(table: &Table, work: &mut Lists, count: usize, slot: usize) -> usize {
+fn join_sons(image: &Image, work: &mut Lists, count: usize, slot: usize) -> usize {
     let before = lists::get(work, BEFORE, slot);
     let after = lists::get(work, AFTER, slot);
     let n = join(
-        table,
+        image,
         work,
         count,
-        memory::field(table, slot, memory::LEFT),
+        memory::field(image, slot, memory::LEFT),
         before,
         slot,
     );
     join(
-        table,
+        image,
         work,
         n,
-        memory::field(table, slot, memory::RIGHT),
+        memory::field(image, slot, memory::RIGHT),
         slot,
         after,
     )
@@ -78,7 +77,7 @@ fn join_sons(table: &Table, work: &mut Lists, count: usize, slot: usize) -> usiz
 
 // Takes a link's node, with its neighbours, into the lists.
 fn join(
-    table: &Table,
+    image: &Image,
     work: &mut Lists,
     count: usize,
     link: usize,
@@ -91,7 +90,7 @@ fn join(
     if count > 511 {
         return 513;
     }
-    if link > memory::word(table, memory::MARK) {
+    if link > memory::word(image, memory::MARK) {
         return 513;
     }
     if lists::get(work, MET, link) > 0 {
@@ -104,50 +103,47 @@ fn join(
     count + 1
 }
 
-fn nodes_hold(table: &Table, store: &Store, work: &Lists, count: usize) -> bool {
+fn nodes_hold(image: &Image, work: &Lists, count: usize) -> bool {
     for i in 0..count {
         let slot = lists::get(work, QUEUE, i);
         let before = lists::get(work, BEFORE, slot);
         let after = lists::get(work, AFTER, slot);
-        if !node_holds(table, store, slot, before, after) {
+        if !node_holds(image, slot, before, after) {
             return false;
         }
     }
     true
 }
 
-fn node_holds(table: &Table, store: &Store, slot: usize, before: usize, after: usize) -> bool {
-    if !label_holds(table, store, slot) {
+fn node_holds(image: &Image, slot: usize, before: usize, after: usize) -> bool {
+    if !label_holds(image, slot) {
         return false;
     }
-    if !is_below(table, store, before, slot) {
+    let low = difference(image, before, slot);
+    if !ascends(image, before, slot, low) {
         return false;
     }
-    if !is_below(table, store, slot, after) {
+    let high = difference(image, slot, after);
+    if !ascends(image, slot, after, high) {
         return false;
     }
-    prefix_holds(
-        table,
-        slot,
-        difference(table, store, before, slot),
-        difference(table, store, slot, after),
-    )
+    prefix_holds(image, slot, low, high)
 }
 
 // Whether a slot's length is a label's, its last word 0, and its bytes past the label 0.
-fn label_holds(table: &Table, store: &Store, slot: usize) -> bool {
-    let len = memory::field(table, slot, memory::LENGTH);
-    if label_refusal(len) > 0 {
+fn label_holds(image: &Image, slot: usize) -> bool {
+    let len = memory::field(image, slot, memory::LENGTH);
+    if label_refusal(image, len) > 0 {
         return false;
     }
-    if memory::field(table, slot, memory::SPARE) > 0 {
+    if memory::field(image, slot, memory::SPARE) > 0 {
         return false;
     }
-    bytes_are_zero(store, slot, len)
+    bytes_are_zero(image, slot, len)
 }
 
 // Whether a slot's place and side are those that its difference places with both neighbours give.
-fn prefix_holds(table: &Table, slot: usize, before: usize, after: usize) -> bool {
+fn prefix_holds(image: &Image, slot: usize, before: usize, after: usize) -> bool {
     let mut place = before;
     let mut side = 0usize;
     if after > before {
@@ -157,14 +153,14 @@ fn prefix_holds(table: &Table, slot: usize, before: usize, after: usize) -> bool
     if place == 0 {
         place = 1;
     }
-    if memory::field(table, slot, memory::PLACE) != place {
+    if memory::field(image, slot, memory::PLACE) != place {
         return false;
     }
-    memory::field(table, slot, memory::SIDE) == side
+    memory::field(image, slot, memory::SIDE) == side
 }
 
 // The first place where two slots' labels hold different numbers; 0 where there is none or a slot is missing.
-fn difference(table: &Table, store: &Store, one: usize, other: usize) -> usize {
+fn difference(image: &Image, one: usize, other: usize) -> usize {
     if one == 0 {
         return 0;
     }
@@ -172,44 +168,42 @@ fn difference(table: &Table, store: &Store, one: usize, other: usize) -> usize {
         return 0;
     }
     for place in 1..66 {
-        if memory::number_at(table, store, one, place)
-            != memory::number_at(table, store, other, place)
-        {
+        if memory::number_at(image, one, place) != memory::number_at(image, other, place) {
             return place;
         }
     }
     0
 }
 
-// Whether a slot's label is below another's; a missing neighbour, slot 0, is below and above all.
-fn is_below(table: &Table, store: &Store, one: usize, other: usize) -> bool {
+// Whether a slot's label is below another's, by their difference place; a missing neighbour, slot 0, is below and
+// above all.
+fn ascends(image: &Image, one: usize, other: usize, place: usize) -> bool {
     if one == 0 {
         return true;
     }
     if other == 0 {
         return true;
     }
-    let place = difference(table, store, one, other);
-    memory::number_at(table, store, one, place) < memory::number_at(table, store, other, place)
+    memory::number_at(image, one, place) < memory::number_at(image, other, place)
 }
 
 // Counts the heights from the last node met to the root, each balance tested on the way.
-fn heights_hold(table: &Table, work: &mut Lists, count: usize) -> bool {
+fn heights_hold(image: &Image, work: &mut Lists, count: usize) -> bool {
     let mut i = count;
     while i > 0 {
         i -= 1;
         let slot = lists::get(work, QUEUE, i);
-        if !height_holds(table, work, slot) {
+        if !height_holds(image, work, slot) {
             return false;
         }
     }
     true
 }
 
-fn height_holds(table: &Table, work: &mut Lists, slot: usize) -> bool {
-    let left = lists::get(work, HEIGHT, memory::field(table, slot, memory::LEFT));
-    let right = lists::get(work, HEIGHT, memory::field(table, slot, memory::RIGHT));
-    let balance = memory::field(table, slot, memory::BALANCE);
+fn height_holds(image: &Image, work: &mut Lists, slot: usize) -> bool {
+    let left = lists::get(work, HEIGHT, memory::field(image, slot, memory::LEFT));
+    let right = lists::get(work, HEIGHT, memory::field(image, slot, memory::RIGHT));
+    let balance = memory::field(image, slot, memory::BALANCE);
     let mut height = left;
     if right > left {
         height = right;
@@ -222,35 +216,35 @@ fn height_holds(table: &Table, work: &mut Lists, slot: usize) -> bool {
 }
 
 // Whether the free chain holds the slots up to the high mark that no node has, each once, and then ends.
-fn chain_holds(table: &Table, store: &Store, work: &mut Lists, count: usize) -> bool {
-    let mut link = memory::word(table, memory::FREE);
-    let mark = memory::word(table, memory::MARK);
+fn chain_holds(image: &Image, work: &mut Lists, count: usize) -> bool {
+    let mut link = memory::word(image, memory::FREE);
+    let mark = memory::word(image, memory::MARK);
     for i in count..mark {
         if link > mark {
             return false;
         }
-        if !is_freed(table, store, work, link) {
+        if !is_freed(image, work, link) {
             return false;
         }
         lists::put(work, MET, link, 1);
-        link = memory::field(table, link, memory::LEFT);
+        link = memory::field(image, link, memory::LEFT);
     }
     link == 0
 }
 
 // Whether a slot was not met yet and is all zero but for its link.
-fn is_freed(table: &Table, store: &Store, work: &Lists, slot: usize) -> bool {
+fn is_freed(image: &Image, work: &Lists, slot: usize) -> bool {
     if lists::get(work, MET, slot) > 0 {
         return false;
     }
-    slot_is_zero(table, store, slot, memory::RIGHT)
+    slot_is_zero(image, slot, memory::RIGHT)
 }
 
 // Whether the slots above the high mark are all zero.
-fn rest_is_zero(table: &Table, store: &Store) -> bool {
-    let mark = memory::word(table, memory::MARK);
-    for slot in mark..512 {
-        if !slot_is_zero(table, store, slot + 1, memory::LEFT) {
+fn rest_is_zero(image: &Image) -> bool {
+    let slots = memory::entry(image, memory::SLOTS);
+    for slot in memory::word(image, memory::MARK)..slots {
+        if !slot_is_zero(image, wrapping_add_usize(slot, 1), memory::LEFT) {
             return false;
         }
     }
@@ -258,22 +252,23 @@ fn rest_is_zero(table: &Table, store: &Store) -> bool {
 }
 
 // Whether a slot's words from one on, and its bytes, are 0.
-fn slot_is_zero(table: &Table, store: &Store, slot: usize, from: usize) -> bool {
+fn slot_is_zero(image: &Image, slot: usize, from: usize) -> bool {
     if slot == 0 {
         return false;
     }
     for j in from..8 {
-        if memory::field(table, slot, j) > 0 {
+        if memory::field(image, slot, j) > 0 {
             return false;
         }
     }
-    bytes_are_zero(store, slot, 0)
+    bytes_are_zero(image, slot, 0)
 }
 
 // Whether a slot's bytes from one on are 0.
-fn bytes_are_zero(store: &Store, slot: usize, from: usize) -> bool {
-    for j in from..64 {
-        if memory::byte(store, slot, j) > 0 {
+fn bytes_are_zero(image: &Image, slot: usize, from: usize) -> bool {
+    let width = memory::entry(image, memory::WIDTH);
+    for j in from..width {
+        if memory::byte(image, slot, j) > 0 {
             return false;
         }
     }

@@ -1,10 +1,8 @@
 // The search steps.
-use crate::Answer;
 use crate::lengths::label_refusal;
 use crate::memory;
-use crate::memory::Store;
-use crate::memory::Table;
-use crate::refused;
+use crate::memory::Image;
+use crate::packing;
 use plainmap::labels::label_number;
 use std::num::wrapping_add_usize;
 use std::num::wrapping_sub_usize;
@@ -19,59 +17,50 @@ struct State {
     places: usize,
 }
 
-pub fn search(table: &Table, store: &Store, label: &[u8]) -> Answer {
+pub fn search(image: &Image, label: &[u8]) -> usize {
     let mut at = State {
-        link: memory::word(table, memory::ROOT),
+        link: memory::word(image, memory::ROOT),
         found: false,
         p: 1,
         s: 1,
         visits: 0,
         places: 0,
     };
-    for turn in 0..12usize {
+    let n = memory::entry(image, memory::DEPTH);
+    for turn in 0..n {
         if !at.found {
-            at = met(table, store, label, at);
+            at = met(image, label, at);
         }
     }
-    ended(table, at)
+    ended(image, at)
 }
 
-// What a search says at its end; a link that is left over is that of a broken node or of a thirteenth.
-fn ended(table: &Table, at: State) -> Answer {
+// What a search says at its end; a link that is left over is that of a broken node or of one too deep.
+fn ended(image: &Image, at: State) -> usize {
+    let slot = at.link;
     if at.found {
-        return Answer {
-            refusal: 0,
-            slot: at.link,
-            value: memory::field(table, at.link, memory::VALUE),
-            visits: at.visits,
-            places: at.places,
-        };
+        let value = memory::field(image, slot, memory::VALUE);
+        return packing::counted(packing::FOUND, at.visits, at.places, slot, value);
     }
-    if at.link > 0 {
-        return refused(5);
+    if slot > 0 {
+        return packing::refused(5);
     }
-    Answer {
-        refusal: 0,
-        slot: 0,
-        value: 0,
-        visits: at.visits,
-        places: at.places,
-    }
+    packing::counted(packing::ABSENT, at.visits, at.places, 0, 0)
 }
 
 // Whether a node that a search is to visit has a slot, length, place or side that no node has.
-fn broken(table: &Table, slot: usize) -> bool {
-    if slot > 512 {
+fn broken(image: &Image, slot: usize) -> bool {
+    if slot > memory::entry(image, memory::SLOTS) {
         return true;
     }
-    let len = memory::field(table, slot, memory::LENGTH);
-    if label_refusal(len) > 0 {
+    let len = memory::field(image, slot, memory::LENGTH);
+    if label_refusal(image, len) > 0 {
         return true;
     }
-    if memory::field(table, slot, memory::SIDE) > 1 {
+    if memory::field(image, slot, memory::SIDE) > 1 {
         return true;
     }
-    wrong_place(memory::field(table, slot, memory::PLACE), len)
+    wrong_place(memory::field(image, slot, memory::PLACE), len)
 }
 
 fn wrong_place(place: usize, len: usize) -> bool {
@@ -82,57 +71,57 @@ fn wrong_place(place: usize, len: usize) -> bool {
 }
 
 // The search after the next link's node; at an empty link, or at a broken node, it stays.
-fn met(table: &Table, store: &Store, label: &[u8], at: State) -> State {
+fn met(image: &Image, label: &[u8], at: State) -> State {
     if at.link == 0 {
         return at;
     }
-    if broken(table, at.link) {
+    if broken(image, at.link) {
         return at;
     }
-    visit(table, store, label, at)
+    visit(image, label, at)
 }
 
-fn go(table: &Table, at: State, son: usize) -> State {
+fn go(image: &Image, at: State, son: usize) -> State {
     let mut next = at;
-    next.link = memory::field(table, at.link, son);
+    next.link = memory::field(image, at.link, son);
     next.visits = wrapping_add_usize(at.visits, 1);
     next
 }
 
-fn visit(table: &Table, store: &Store, label: &[u8], at: State) -> State {
-    let place = memory::field(table, at.link, memory::PLACE);
-    if memory::field(table, at.link, memory::SIDE) == 0 {
+fn visit(image: &Image, label: &[u8], at: State) -> State {
+    let place = memory::field(image, at.link, memory::PLACE);
+    if memory::field(image, at.link, memory::SIDE) == 0 {
         if at.p < place {
-            return go(table, at, memory::RIGHT);
+            return go(image, at, memory::RIGHT);
         }
         if at.p > place {
-            return go(table, at, memory::LEFT);
+            return go(image, at, memory::LEFT);
         }
     } else {
         if at.s < place {
-            return go(table, at, memory::LEFT);
+            return go(image, at, memory::LEFT);
         }
         if at.s > place {
-            return go(table, at, memory::RIGHT);
+            return go(image, at, memory::RIGHT);
         }
     }
-    compare(table, store, label, at, place)
+    compare(image, label, at, place)
 }
 
 // The visit of a node whose label is compared from a place on.
-fn compare(table: &Table, store: &Store, label: &[u8], at: State, from: usize) -> State {
-    let end = compared_to(table, store, at.link, label, from);
+fn compare(image: &Image, label: &[u8], at: State, from: usize) -> State {
+    let end = compared_to(image, at.link, label, from);
     let mut next = at;
     next.places = examined(at.places, from, end);
     let sought = label_number(label, end);
-    let other = memory::number_at(table, store, at.link, end);
+    let other = memory::number_at(image, at.link, end);
     if sought < other {
         next.s = end;
-        return go(table, next, memory::LEFT);
+        return go(image, next, memory::LEFT);
     }
     if sought > other {
         next.p = end;
-        return go(table, next, memory::RIGHT);
+        return go(image, next, memory::RIGHT);
     }
     next.found = true;
     next.visits = wrapping_add_usize(at.visits, 1);
@@ -145,13 +134,13 @@ fn examined(places: usize, from: usize, end: usize) -> usize {
 }
 
 // The last place that a comparison from a place on examines: the first difference, or the shared end.
-fn compared_to(table: &Table, store: &Store, slot: usize, label: &[u8], from: usize) -> usize {
+fn compared_to(image: &Image, slot: usize, label: &[u8], from: usize) -> usize {
     for place in from..65 {
         let sought = label_number(label, place);
         if sought == 0 {
             return place;
         }
-        if sought != memory::number_at(table, store, slot, place) {
+        if sought != memory::number_at(image, slot, place) {
             return place;
         }
     }

@@ -8,7 +8,7 @@ use lists::Lists;
 use std::num::wrapping_add_usize;
 
 // The lists of the map: the slots in ascending order of their labels, the slots freed, each slot's label length and
-// value, the three counts, and 64 lists for the first to the last byte of each slot's label.
+// value, the counts and sizes, and 64 lists for the first to the last byte of each slot's label.
 pub const ORDER: usize = 0;
 
 pub const FREED: usize = 1;
@@ -21,12 +21,16 @@ pub const COUNTS: usize = 4;
 
 pub const BYTES: usize = 5;
 
-// The counts: labels held, slots freed, slots ever used.
+// The counts: labels held, slots freed, slots ever used; and the sizes, slots and bytes of a label.
 const HELD: usize = 0;
 
 const FREE: usize = 1;
 
 const HIGH: usize = 2;
+
+const SLOTS: usize = 3;
+
+const WIDTH: usize = 4;
 
 // What the map says: a refusal's number, or 0 with the label's slot and value; a label that is not held has slot 0.
 pub struct Said {
@@ -57,10 +61,12 @@ struct Spot {
     held: bool,
 }
 
-// Empties the map; slots count from 1 again.
-pub fn clear(map: &mut Lists) {
+// Empties the map, for so many labels of at most so many bytes; slots count from 1 again.
+pub fn clear(map: &mut Lists, slots: usize, width: usize) {
     let empty = [0u16; 35397];
     *map = empty;
+    lists::put(map, COUNTS, SLOTS, slots);
+    lists::put(map, COUNTS, WIDTH, width);
 }
 
 pub fn held(map: &Lists) -> usize {
@@ -94,11 +100,11 @@ pub fn last_freed(map: &Lists) -> usize {
 }
 
 // The number that refuses a label by its length, or 0.
-pub fn length_refusal(len: usize) -> usize {
+fn length_refusal(map: &Lists, len: usize) -> usize {
     if len == 0 {
         return 3;
     }
-    if len > 64 {
+    if len > lists::get(map, COUNTS, WIDTH) {
         return 4;
     }
     0
@@ -129,7 +135,7 @@ fn spot_of(map: &Lists, label: &[u8]) -> Spot {
 }
 
 pub fn search(map: &Lists, label: &[u8]) -> Said {
-    let why = length_refusal(label.len());
+    let why = length_refusal(map, label.len());
     if why > 0 {
         return no_slot(why);
     }
@@ -142,14 +148,14 @@ pub fn search(map: &Lists, label: &[u8]) -> Said {
 
 // The number that refuses the insert of a label of a length, held already or not; or 0.
 fn insert_refusal(map: &Lists, len: usize, known: bool) -> usize {
-    let why = length_refusal(len);
+    let why = length_refusal(map, len);
     if why > 0 {
         return why;
     }
     if known {
         return 7;
     }
-    if held(map) > 511 {
+    if held(map) >= lists::get(map, COUNTS, SLOTS) {
         return 9;
     }
     0
@@ -167,8 +173,8 @@ pub fn insert(map: &mut Lists, label: &[u8], value: u16) -> Said {
     at_slot(map, slot)
 }
 
-fn delete_refusal(len: usize, known: bool) -> usize {
-    let why = length_refusal(len);
+fn delete_refusal(map: &Lists, len: usize, known: bool) -> usize {
+    let why = length_refusal(map, len);
     if why > 0 {
         return why;
     }
@@ -180,7 +186,7 @@ fn delete_refusal(len: usize, known: bool) -> usize {
 
 pub fn delete(map: &mut Lists, label: &[u8]) -> Said {
     let spot = spot_of(map, label);
-    let why = delete_refusal(label.len(), spot.held);
+    let why = delete_refusal(map, label.len(), spot.held);
     if why > 0 {
         return no_slot(why);
     }

@@ -1,9 +1,9 @@
-// What can differ: the answer's refusal, slot or value; its counts from those of the steps; the counts from both
-// bounds; what a refusal left from what it found, or what an update left is the same; the check's answer; soundness;
-// the listing; a label's view; the words of the table's head; the refusal from the one that a case of the paper names.
+// What can differ: the answer from that of the second writing of the paper; from that of the map; a search's counts from
+// both bounds; what a call left from what it is to leave; the check's answer; soundness; the listing; a label's view;
+// the words of the table's head; the refusal from the one that a case of the paper names.
 pub const ANSWER: usize = 1;
 
-pub const COUNTS: usize = 2;
+pub const MAP: usize = 2;
 
 pub const BOUNDS: usize = 3;
 

@@ -1,12 +1,12 @@
 // What the tests count and print.
-pub mod calls;
 pub mod faults;
 pub mod tallies;
 pub mod texts;
 
-// What came of a call: the fault, that is what differs first, 0 for nothing; and the index's refusal and slot.
+// What came of a call: the fault, that is what differs first, 0 for nothing; and the kind of the index's answer, with
+// the number where it is 0, a refusal.
 pub struct Round {
     pub fault: usize,
+    pub kind: usize,
     pub refusal: usize,
-    pub slot: usize,
 }

@@ -1,9 +1,8 @@
 // What a group counts, and the lines that are printed.
 use crate::Round;
-use crate::calls::DELETE;
-use crate::calls::INSERT;
 use crate::texts;
 use crate::texts::Line;
+use samples::calls::INSERT;
 use std::num::wrapping_add_usize;
 
 pub type Tally = [usize; 10];
@@ -72,30 +71,63 @@ fn at_least(tally: Tally, k: usize, x: usize) -> Tally {
 // Counts a call on a sound table that left `held` labels.
 pub fn count(tally: Tally, call: usize, round: Round, held: usize) -> Tally {
     let called = one_more(tally, CALLS);
-    let ended = one_more(called, end_of(call, round));
+    let ended = one_more(called, end_of(call, round.kind));
     let most = at_least(ended, MOST, held);
     one_more_if(most, MISMATCHES, round.fault > 0)
 }
 
-// Which count a call's end goes to.
-fn end_of(call: usize, round: Round) -> usize {
-    if round.refusal > 0 {
-        return REFUSED;
+// Which count a call's end goes to, by the kind of its answer.
+fn end_of(call: usize, kind: usize) -> usize {
+    match kind {
+        0 => REFUSED,
+        1 => FOUND,
+        2 => ABSENT,
+        _ => updates_end(call),
     }
+}
+
+fn updates_end(call: usize) -> usize {
     if call == INSERT {
         return INSERTED;
     }
-    if call == DELETE {
-        return DELETED;
-    }
-    if round.slot > 0 {
-        return FOUND;
-    }
-    ABSENT
+    DELETED
 }
 
-// Prints a group's line: the name of its shape, its own among some, and its counts.
-pub fn print(shape: usize, names: &[u8], name: usize, counts: &[u8], tally: Tally) {
+// Prints the line of a group of calls on sound tables: its shape, its way, and its counts.
+pub fn print_sequence(shape: usize, way: usize, tally: Tally) {
+    print(
+        shape,
+        b", case 11|, in order|, reversed|, stepped|, drawn|, prepared",
+        way,
+        b": calls 0, found 1, absent 2, inserted 3, deleted 4, refused 5, most held 6, mismatches 7",
+        tally,
+    );
+}
+
+// Prints the line of a group of changes of one kind.
+pub fn print_damage(shape: usize, kind: usize, tally: Tally) {
+    print(
+        shape,
+        b", one word|, two words|, three words|, one byte|, two rows|, freed slots|, cycles",
+        kind,
+        b": changes 8, still sound 9, calls 0, mismatches 7",
+        tally,
+    );
+}
+
+// Prints the line of the group of other lengths.
+pub fn print_lengths(shape: usize, tally: Tally) {
+    print(
+        shape,
+        b", other lengths",
+        0,
+        b": calls 0, mismatches 7",
+        tally,
+    );
+}
+
+// Prints a line: the name of a shape, one among some names, and a text in which digits stand for counts.
+fn print(shape: usize, names: &[u8], name: usize, counts: &[u8], tally: Tally) {
     let mut line = [0u8; 400];
     let a = put_shape(&mut line, 0, shape);
     let b = texts::put_name(&mut line, a, names, name);
@@ -136,7 +168,7 @@ fn put_fault(line: &mut Line, at: usize, fault: usize) -> usize {
     texts::put_name(
         line,
         next,
-        b"|answer|counts|bounds|memory left|check|soundness|listing|views|head|refusal",
+        b"|answer|answer beside the map|bounds|memory left|check|soundness|listing|views|head|refusal",
         fault,
     )
 }

@@ -1,52 +1,117 @@
-// The index's calls, on any memory, their answers in numbers.
-use crate::answers;
-use crate::answers::Listed;
-use oracles::Answer;
-use oracles::refused;
-use reports::calls::DELETE;
-use reports::calls::INSERT;
-use reports::calls::SEARCH;
+// The calls of the index on the memory that an image holds, lent at the lengths that it says.
+use oracles::memory;
+use oracles::memory::Image;
+use oracles::memory::Lent;
+use oracles::packing;
+use samples::calls::CHECK;
+use samples::calls::DELETE;
+use samples::calls::INSERT;
+use samples::calls::LAYOUT;
+use samples::calls::LISTING;
+use samples::calls::SEARCH;
+use samples::calls::VIEW;
 
-pub fn search(table: &[u16], store: &[u8], label: &[u8]) -> Answer {
-    answers::of_search(index::search(table, store, label))
+// Makes a call on a label, with a value or a slot, and puts what it leaves into the image; the answer in one number.
+pub fn make(image: &mut Image, call: usize, label: &[u8], number: usize) -> usize {
+    let mut words = memory::words_of(image);
+    let mut bytes = memory::bytes_of(image);
+    let lent = memory::lengths(image);
+    if fills_list(call) {
+        let mut list = memory::list_of(image);
+        let said = lend_list(&words, &bytes, &mut list, lent, call, number);
+        memory::put_list(image, &list);
+        return said;
+    }
+    let said = lend(&mut words, &mut bytes, lent, call, label, number);
+    memory::put_back(image, &words, &bytes);
+    said
 }
 
-pub fn check(table: &[u16], store: &[u8]) -> usize {
-    answers::of_done(index::check(table, store))
-}
-
-pub fn view_check(table: &[u16], store: &[u8], slot: usize) -> usize {
-    answers::of_done(index::view_check(table, store, slot))
-}
-
-pub fn listing(table: &[u16], store: &[u8], list: &mut [u16]) -> Listed {
-    answers::of_listing(index::listing(table, store, list))
-}
-
-// Makes a search, an insert or a delete, or else a layout.
-pub fn on_label(
-    table: &mut [u16],
-    store: &mut [u8],
-    call: usize,
-    label: &[u8],
-    value: u16,
-) -> Answer {
+fn fills_list(call: usize) -> bool {
     match call {
-        SEARCH => search(table, store, label),
-        INSERT => insert(table, store, label, value),
-        DELETE => delete(table, store, label),
-        _ => layout(table, store),
+        LISTING => true,
+        VIEW => true,
+        _ => false,
     }
 }
 
-fn insert(table: &mut [u16], store: &mut [u8], label: &[u8], value: u16) -> Answer {
-    answers::of_update(index::insert(table, store, label, value))
+// Makes a call on the first words and bytes.
+fn lend(
+    words: &mut [u16],
+    bytes: &mut [u8],
+    lent: Lent,
+    call: usize,
+    label: &[u8],
+    number: usize,
+) -> usize {
+    let n = lent.words;
+    let m = lent.bytes;
+    if n > words.len() {
+        return 0;
+    }
+    if m > bytes.len() {
+        return 0;
+    }
+    on(&mut words[..n], &mut bytes[..m], call, label, number)
 }
 
-fn delete(table: &mut [u16], store: &mut [u8], label: &[u8]) -> Answer {
-    answers::of_update(index::delete(table, store, label))
+fn on(table: &mut [u16], store: &mut [u8], call: usize, label: &[u8], number: usize) -> usize {
+    match call {
+        INSERT => exports::strap_insert(table, store, label, (number % 65536) as u16),
+        DELETE => exports::strap_delete(table, store, label),
+        LAYOUT => exports::strap_layout(table, store),
+        _ => read(table, store, call, label, number),
+    }
 }
 
-fn layout(table: &mut [u16], store: &mut [u8]) -> Answer {
-    refused(answers::of_done(index::layout(table, store)))
+fn read(table: &[u16], store: &[u8], call: usize, label: &[u8], slot: usize) -> usize {
+    match call {
+        SEARCH => exports::strap_search(table, store, label),
+        CHECK => exports::strap_check(table, store),
+        _ => exports::strap_view_check(table, store, slot),
+    }
+}
+
+// Makes a listing of the first words and bytes into the first words of a list, or puts the view's bytes there.
+fn lend_list(
+    words: &[u16],
+    bytes: &[u8],
+    list: &mut [u16],
+    lent: Lent,
+    call: usize,
+    slot: usize,
+) -> usize {
+    let n = lent.words;
+    let m = lent.bytes;
+    let room = lent.room;
+    if n > words.len() {
+        return 0;
+    }
+    if m > bytes.len() {
+        return 0;
+    }
+    if room > list.len() {
+        return 0;
+    }
+    if call == VIEW {
+        return put_view(list, index::view(&words[..n], &bytes[..m], slot));
+    }
+    exports::strap_listing(&words[..n], &bytes[..m], &mut list[..room])
+}
+
+fn put_view(list: &mut [u16], part: &[u8]) -> usize {
+    for j in 0..part.len() {
+        put(list, j, part[j]);
+    }
+    packing::plain(packing::VIEWED, part.len())
+}
+
+fn put(list: &mut [u16], j: usize, byte: u8) {
+    if j < list.len() {
+        list[j] = widened(byte);
+    }
+}
+
+fn widened(x: u8) -> u16 {
+    x as u16
 }

@@ -1,127 +1,93 @@
-// The table and store after a call, compared with the map.
+// The memory after a call on a sound table, compared with the map.
 use crate::calls;
 use oracles::memory;
-use oracles::memory::Store;
-use oracles::memory::Table;
+use oracles::memory::Image;
+use oracles::memory::Lent;
+use oracles::packing;
 use plainmap::lists::Lists;
 use reports::faults;
+use samples::calls::LISTING;
 
-// Whether two tables and stores hold the same words and bytes.
-pub fn same(table: &Table, store: &Store, other_table: &Table, other_store: &Store) -> bool {
-    if !same_words(table, other_table) {
-        return false;
-    }
-    same_bytes(store, other_store)
-}
-
-pub fn same_words(one: &[u16], other: &[u16]) -> bool {
-    if one.len() != other.len() {
-        return false;
-    }
-    for i in 0..one.len() {
-        if one[i] != other[i] {
-            return false;
-        }
-    }
-    true
-}
-
-pub fn same_bytes(one: &[u8], other: &[u8]) -> bool {
-    if one.len() != other.len() {
-        return false;
-    }
-    for i in 0..one.len() {
-        if one[i] != other[i] {
-            return false;
-        }
-    }
-    true
-}
-
-// Soundness, by the index and by the second writing; the head's words; the listing; every label through the view.
-pub fn compare(table: &Table, store: &Store, map: &Lists) -> usize {
-    if calls::check(table, store) > 0 {
-        return faults::CHECK;
-    }
-    if !oracles::sound::is_sound(table, store) {
+// Soundness, by the second writing and by the index; the head's words; the listing; every label through the view.
+pub fn compare(image: &Image, map: &Lists) -> usize {
+    if !oracles::sound::is_sound(image) {
         return faults::SOUND;
     }
-    if !head_agrees(table, map) {
+    if !head_agrees(image, map) {
         return faults::HEAD;
     }
-    if !listing_agrees(table, store, map) {
+    if !listing_agrees(image, map) {
         return faults::LISTING;
     }
-    if !views_agree(table, store, map) {
-        return faults::VIEW;
-    }
-    0
+    let words = memory::words_of(image);
+    let bytes = memory::bytes_of(image);
+    lent_fault(&words, &bytes, memory::lengths(image), map)
 }
 
 // The labels held, the high mark, and the slot freed last.
-fn head_agrees(table: &Table, map: &Lists) -> bool {
-    if memory::word(table, memory::HELD) != plainmap::held(map) {
+fn head_agrees(image: &Image, map: &Lists) -> bool {
+    if memory::word(image, memory::HELD) != plainmap::held(map) {
         return false;
     }
-    if memory::word(table, memory::MARK) != plainmap::high(map) {
+    if memory::word(image, memory::MARK) != plainmap::high(map) {
         return false;
     }
-    memory::word(table, memory::FREE) == plainmap::last_freed(map)
+    memory::word(image, memory::FREE) == plainmap::last_freed(map)
 }
 
-// The listing's words, and the later ones, which stay.
-fn listing_agrees(table: &Table, store: &Store, map: &Lists) -> bool {
-    let mut list = [65535u16; 513];
-    let said = calls::listing(table, store, &mut list);
-    if said.refusal > 0 {
+// The listing's count and words, the later ones, which stay, and the values of the slots listed.
+fn listing_agrees(image: &Image, map: &Lists) -> bool {
+    let mut copy = *image;
+    if calls::make(&mut copy, LISTING, b"", 0)
+        != packing::plain(packing::LISTED, plainmap::held(map))
+    {
         return false;
     }
-    if said.count != plainmap::held(map) {
-        return false;
-    }
-    order_agrees(&list, map, said.count)
-}
-
-fn wide(x: u16) -> usize {
-    x as usize
-}
-
-fn order_agrees(list: &[u16; 513], map: &Lists, count: usize) -> bool {
     for i in 0..513usize {
-        if wide(list[i]) != listed(map, i, count) {
+        if !listed(&copy, map, i) {
             return false;
         }
     }
     true
 }
 
-// Word `i` of a list with the slots of so many labels.
-fn listed(map: &Lists, i: usize, count: usize) -> usize {
-    if i < count {
-        return plainmap::slot_at(map, i);
+// Whether word `i` of the list is the slot of the map's label there, with its value, or has stayed.
+fn listed(image: &Image, map: &Lists, i: usize) -> bool {
+    let word = memory::entry(image, std::num::wrapping_add_usize(memory::LIST, i));
+    if i >= plainmap::held(map) {
+        return word == 65535;
     }
-    65535
+    if word != plainmap::slot_at(map, i) {
+        return false;
+    }
+    memory::field(image, word, memory::VALUE) == plainmap::value_of(map, word)
 }
 
-fn views_agree(table: &Table, store: &Store, map: &Lists) -> bool {
+// The fault of the check, or of a view, on the first words and bytes.
+fn lent_fault(words: &[u16], bytes: &[u8], lent: Lent, map: &Lists) -> usize {
+    let n = lent.words;
+    let m = lent.bytes;
+    if n > words.len() {
+        return faults::MEMORY;
+    }
+    if m > bytes.len() {
+        return faults::MEMORY;
+    }
+    reading_fault(&words[..n], &bytes[..m], map)
+}
+
+fn reading_fault(table: &[u16], store: &[u8], map: &Lists) -> usize {
+    if exports::strap_check(table, store) != packing::plain(packing::DONE, 0) {
+        return faults::CHECK;
+    }
     let n = plainmap::held(map);
     for i in 0..n {
-        if !view_agrees(table, store, map, plainmap::slot_at(map, i)) {
-            return false;
+        let slot = plainmap::slot_at(map, i);
+        if !spells(map, slot, index::view(table, store, slot)) {
+            return faults::VIEW;
         }
     }
-    true
-}
-
-// A slot's label through the view, and its value.
-fn view_agrees(table: &Table, store: &Store, map: &Lists, slot: usize) -> bool {
-    if calls::view_check(table, store, slot) > 0 {
-        return false;
-    }
-    if memory::field(table, slot, memory::VALUE) != plainmap::value_of(map, slot) {
-        return false;
-    }
-    spells(map, slot, index::view(table, store, slot))
+    0
 }
 
 fn spells(map: &Lists, slot: usize, label: &[u8]) -> bool {

@@ -1,3 +1,4 @@
-// What the tests draw from: labels by their number, and numbers that look random.
+// What the tests draw from: the calls by number, labels by number, and numbers that look random.
+pub mod calls;
 pub mod numbers;
 pub mod shapes;

@@ -25,8 +25,8 @@ pub fn mixed(one: usize, other: usize) -> usize {
 }
 
 // A value for an insert.
-pub fn value(one: usize, other: usize) -> u16 {
-    (mixed(one, other) % 65536) as u16
+pub fn value(one: usize, other: usize) -> usize {
+    mixed(one, other) % 65536
 }
 
 // The number of a sequence that stands for one of another and a count.

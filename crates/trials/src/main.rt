@@ -1,36 +1,33 @@
 // The executed tests: the index beside a plain ordered map and a second writing of the paper, over whole rosters, calls
-// from a fixed generator, and damaged memory. One line is printed for each group, and one for each call that does not
-// agree: the expected output has none.
-mod changes;
+// from a fixed generator, damaged memory and memory of other lengths. One line is printed for each group, and one for
+// each call that does not agree: the expected output has none.
 mod damage;
-mod groups;
-mod lengths;
-mod plans;
+mod lent;
+mod sequences;
 
-use oracles::memory::Store;
-use oracles::memory::Table;
+use oracles::memory;
+use oracles::memory::Image;
 use plainmap::lists::Lists;
-use plans::GROUPS;
+use plans::groups;
 
 fn main() {
-    let mut table = [0u16; 4100];
-    let mut store = [0u8; 32768];
+    let mut image = memory::fresh(512, 64, 12);
     let mut map = [0u16; 35397];
-    run(&mut table, &mut store, &mut map);
-    lengths::run(&table, &store);
+    run(&mut image, &mut map);
+    lent::run(&image);
 }
 
-fn run(table: &mut Table, store: &mut Store, map: &mut Lists) {
-    for group in 0..GROUPS {
-        groups::run(table, store, map, group);
-        damage_if(table, store, group);
+fn run(image: &mut Image, map: &mut Lists) {
+    for group in 0..groups::GROUPS {
+        sequences::run(image, map, group);
+        damage_if(image, group);
     }
 }
 
 // The damaged memories of a table that a group prepared.
-fn damage_if(table: &Table, store: &Store, group: usize) {
-    let plan = plans::plan_of(group);
-    if plan.way == plans::PREPARED {
-        damage::run(table, store, plan.shape);
+fn damage_if(image: &Image, group: usize) {
+    let plan = groups::plan_of(group);
+    if plan.way == groups::PREPARED {
+        damage::run(image, plan.shape);
     }
 }

@@ -1,15 +1,15 @@
--- `trials::run` is safe and ends. The loop's invariant: its counter stays within its range. The measure is what is
--- left of the range. Assumes nothing.
+-- `trials::run` is safe and ends. The loop's invariant: its counter is not below its start. The measure
+-- is what is left of the range. Assumes nothing.
 use Prim.Native.Nat.{_≤_, _-_}
 use borrow.Author.Needs.{needs}
 use Rattle.trials.proofs.run.Statement.{statement}
 use Rattle.trials.proofs.run.Tie as tie
 
 abbrev Inv-loop : tie.InvT-loop
-Inv-loop table₀ store₀ map₀ group₀ table store map group = group ≤ 14
+Inv-loop image₀ map₀ group₀ image map group = group₀ ≤ group
 
 abbrev μ-loop : tie.MeasureT-loop
-μ-loop table₀ store₀ map₀ group₀ table store map group = 14 - group
+μ-loop image₀ map₀ group₀ image map group = 14 - group
 
 loop-holds : tie.Need-loop-holds Inv-loop μ-loop
 loop-holds c = search needs

@@ -1,4 +1,4 @@
--- `oracles::bounds::smallest` is safe and ends. The loop's invariant: its counter stays within its range. The measure
+-- `oracles::bounds::smallest` is safe and ends. The loop's invariant: its counter is not below its start. The measure
 -- is what is left of the range. Assumes nothing.
 use Prim.Native.Nat.{_≤_, _-_}
 use borrow.Author.Needs.{needs}
@@ -6,7 +6,7 @@ use Rattle.oracles.proofs.bounds.smallest.Statement.{statement}
 use Rattle.oracles.proofs.bounds.smallest.Tie as tie
 
 abbrev Inv-loop : tie.InvT-loop
-Inv-loop height nodes₀ next₀ i₀ nodes next i = i ≤ height
+Inv-loop height nodes₀ next₀ i₀ nodes next i = i₀ ≤ i
 
 abbrev μ-loop : tie.MeasureT-loop
 μ-loop height nodes₀ next₀ i₀ nodes next i = height - i

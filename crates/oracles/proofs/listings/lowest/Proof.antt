@@ -1,4 +1,4 @@
--- `oracles::listings::lowest` is safe and ends. The loop's invariant: its counter stays within its range. The measure
+-- `oracles::listings::lowest` is safe and ends. The loop's invariant: its counter is not below its start. The measure
 -- is what is left of the range. Assumes nothing.
 use Prim.Native.Nat.{_≤_, _-_}
 use borrow.Author.Needs.{needs}
@@ -6,10 +6,10 @@ use Rattle.oracles.proofs.listings.lowest.Statement.{statement}
 use Rattle.oracles.proofs.listings.lowest.Tie as tie
 
 abbrev Inv-loop : tie.InvT-loop
-Inv-loop table slot at₀ turn₀ at turn = turn ≤ 12
+Inv-loop image slot at₀ turn₀ at turn = turn₀ ≤ turn
 
 abbrev μ-loop : tie.MeasureT-loop
-μ-loop table slot at₀ turn₀ at turn = 12 - turn
+μ-loop image slot at₀ turn₀ at turn = 12 - turn
 
 loop-holds : tie.Need-loop-holds Inv-loop μ-loop
 loop-holds c = search needs

@@ -1,4 +1,4 @@
--- `oracles::listings::write` is safe and ends. The loop's invariant: its counter stays within its range. The measure
+-- `oracles::listings::write` is safe and ends. The loop's invariant: its counter is not below its start. The measure
 -- is what is left of the range. Assumes nothing.
 use Prim.Native.Nat.{_≤_, _-_}
 use borrow.Author.Needs.{needs}
@@ -6,10 +6,10 @@ use Rattle.oracles.proofs.listings.write.Statement.{statement}
 use Rattle.oracles.proofs.listings.write.Tie as tie
 
 abbrev Inv-loop : tie.InvT-loop
-Inv-loop table list₀ held tree slot₀ i₀ list slot i = i ≤ held
+Inv-loop image₀ held tree slot₀ i₀ image slot i = i₀ ≤ i
 
 abbrev μ-loop : tie.MeasureT-loop
-μ-loop table list₀ held tree slot₀ i₀ list slot i = held - i
+μ-loop image₀ held tree slot₀ i₀ image slot i = held - i
 
 read-tree-requires : tie.Need-read-tree-requires Inv-loop μ-loop
 read-tree-requires c κs = search needs
@@ -22,6 +22,9 @@ lowest-requires c κs = search needs
 
 loop-holds : tie.Need-loop-holds Inv-loop μ-loop
 loop-holds c = search needs
+
+wrapping-add-usize-requires : tie.Need-wrapping-add-usize-requires Inv-loop μ-loop
+wrapping-add-usize-requires c κs = search needs
 
 put-requires : tie.Need-put-requires Inv-loop μ-loop
 put-requires c κs = search needs
@@ -51,6 +54,7 @@ write-spec =
     word-requires
     lowest-requires
     loop-holds
+    wrapping-add-usize-requires
     put-requires
     next-requires
     add-i

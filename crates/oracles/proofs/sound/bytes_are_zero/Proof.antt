@@ -1,15 +1,18 @@
--- `oracles::sound::bytes_are_zero` is safe and ends. The loop's invariant: its counter is not below its start. The
--- measure is what is left of the range. Assumes nothing.
+-- `oracles::sound::bytes_are_zero` is safe and ends. The loop's invariant: its counter is not below its start. The measure
+-- is what is left of the range. Assumes nothing.
 use Prim.Native.Nat.{_≤_, _-_}
 use borrow.Author.Needs.{needs}
 use Rattle.oracles.proofs.sound.bytes_are_zero.Statement.{statement}
 use Rattle.oracles.proofs.sound.bytes_are_zero.Tie as tie
 
 abbrev Inv-loop : tie.InvT-loop
-Inv-loop store slot from j₀ j = j₀ ≤ j
+Inv-loop image slot from width j₀ j = j₀ ≤ j
 
 abbrev μ-loop : tie.MeasureT-loop
-μ-loop store slot from j₀ j = 64 - j
+μ-loop image slot from width j₀ j = width - j
+
+entry-requires : tie.Need-entry-requires Inv-loop μ-loop
+entry-requires c κs = search needs
 
 loop-holds : tie.Need-loop-holds Inv-loop μ-loop
 loop-holds c = search needs
@@ -38,6 +41,7 @@ bytes-are-zero-spec =
     (tie.spec
     Inv-loop
     μ-loop
+    entry-requires
     loop-holds
     byte-requires
     returns

@@ -1,15 +1,15 @@
--- `oracles::sound::chain_holds` is safe and ends. The loop's invariant: its counter is not below its start. The
--- measure is what is left of the range. Assumes nothing.
+-- `oracles::sound::chain_holds` is safe and ends. The loop's invariant: its counter is not below its start. The measure
+-- is what is left of the range. Assumes nothing.
 use Prim.Native.Nat.{_≤_, _-_}
 use borrow.Author.Needs.{needs}
 use Rattle.oracles.proofs.sound.chain_holds.Statement.{statement}
 use Rattle.oracles.proofs.sound.chain_holds.Tie as tie
 
 abbrev Inv-loop : tie.InvT-loop
-Inv-loop table store work₀ count link₀ mark i₀ work link i = i₀ ≤ i
+Inv-loop image work₀ count link₀ mark i₀ work link i = i₀ ≤ i
 
 abbrev μ-loop : tie.MeasureT-loop
-μ-loop table store work₀ count link₀ mark i₀ work link i = mark - i
+μ-loop image work₀ count link₀ mark i₀ work link i = mark - i
 
 word-requires : tie.Need-word-requires Inv-loop μ-loop
 word-requires c κs = search needs

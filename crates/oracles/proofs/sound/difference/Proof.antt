@@ -1,15 +1,15 @@
--- `oracles::sound::difference` is safe and ends. The loop's invariant: its counter stays within its range. The
--- measure is what is left of the range. Assumes nothing.
+-- `oracles::sound::difference` is safe and ends. The loop's invariant: its counter is not below its start. The measure
+-- is what is left of the range. Assumes nothing.
 use Prim.Native.Nat.{_≤_, _-_}
 use borrow.Author.Needs.{needs}
 use Rattle.oracles.proofs.sound.difference.Statement.{statement}
 use Rattle.oracles.proofs.sound.difference.Tie as tie
 
 abbrev Inv-loop : tie.InvT-loop
-Inv-loop table store one other place₀ place = place ≤ 66
+Inv-loop image one other place₀ place = place₀ ≤ place
 
 abbrev μ-loop : tie.MeasureT-loop
-μ-loop table store one other place₀ place = 66 - place
+μ-loop image one other place₀ place = 66 - place
 
 returns : tie.Need-returns Inv-loop μ-loop
 returns c = search needs

@@ -1,15 +1,15 @@
--- `oracles::sound::heights_hold` is safe and ends. The loop's invariant: `i` is at most what it was at first. The
--- measure is `i`, which falls. Assumes nothing.
-use Prim.Native.Nat.{_≤_}
+-- `oracles::sound::heights_hold` is safe and ends. The loop's invariant: its counter is not below its start. The measure
+-- is what is left of the range. Assumes nothing.
+use Prim.Native.Nat.{_≤_, _-_}
 use borrow.Author.Needs.{needs}
 use Rattle.oracles.proofs.sound.heights_hold.Statement.{statement}
 use Rattle.oracles.proofs.sound.heights_hold.Tie as tie
 
 abbrev Inv-loop : tie.InvT-loop
-Inv-loop table work₀ count i₀ work i = i ≤ count
+Inv-loop image work₀ count i₀ work i = i ≤ i₀
 
 abbrev μ-loop : tie.MeasureT-loop
-μ-loop table work₀ count i₀ work i = i
+μ-loop image work₀ count i₀ work i = i
 
 loop-holds : tie.Need-loop-holds Inv-loop μ-loop
 loop-holds c = search needs

@@ -1,15 +1,15 @@
--- `oracles::sound::nodes_hold` is safe and ends. The loop's invariant: its counter stays within its range. The
--- measure is what is left of the range. Assumes nothing.
+-- `oracles::sound::nodes_hold` is safe and ends. The loop's invariant: its counter is not below its start. The measure
+-- is what is left of the range. Assumes nothing.
 use Prim.Native.Nat.{_≤_, _-_}
 use borrow.Author.Needs.{needs}
 use Rattle.oracles.proofs.sound.nodes_hold.Statement.{statement}
 use Rattle.oracles.proofs.sound.nodes_hold.Tie as tie
 
 abbrev Inv-loop : tie.InvT-loop
-Inv-loop table store work count i₀ i = i ≤ count
+Inv-loop image work count i₀ i = i₀ ≤ i
 
 abbrev μ-loop : tie.MeasureT-loop
-μ-loop table store work count i₀ i = count - i
+μ-loop image work count i₀ i = count - i
 
 loop-holds : tie.Need-loop-holds Inv-loop μ-loop
 loop-holds c = search needs

@@ -1,4 +1,4 @@
--- `oracles::sound::read_tree` is safe and ends. The loop's invariant: its counter stays within its range. The measure
+-- `oracles::sound::read_tree` is safe and ends. The loop's invariant: its counter is not below its start. The measure
 -- is what is left of the range. Assumes nothing.
 use Prim.Native.Nat.{_≤_, _-_}
 use borrow.Author.Needs.{needs}
@@ -6,10 +6,10 @@ use Rattle.oracles.proofs.sound.read_tree.Statement.{statement}
 use Rattle.oracles.proofs.sound.read_tree.Tie as tie
 
 abbrev Inv-loop : tie.InvT-loop
-Inv-loop table work₀ count₀ i₀ work count i = i ≤ 512
+Inv-loop image work₀ count₀ i₀ work count i = i₀ ≤ i
 
 abbrev μ-loop : tie.MeasureT-loop
-μ-loop table work₀ count₀ i₀ work count i = 512 - i
+μ-loop image work₀ count₀ i₀ work count i = 512 - i
 
 word-requires : tie.Need-word-requires Inv-loop μ-loop
 word-requires c κs = search needs

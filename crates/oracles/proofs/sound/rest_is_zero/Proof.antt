@@ -1,15 +1,18 @@
--- `oracles::sound::rest_is_zero` is safe and ends. The loop's invariant: its counter is not below its start. The
--- measure is what is left of the range. Assumes nothing.
+-- `oracles::sound::rest_is_zero` is safe and ends. The loop's invariant: its counter is not below its start. The measure
+-- is what is left of the range. Assumes nothing.
 use Prim.Native.Nat.{_≤_, _-_}
 use borrow.Author.Needs.{needs}
 use Rattle.oracles.proofs.sound.rest_is_zero.Statement.{statement}
 use Rattle.oracles.proofs.sound.rest_is_zero.Tie as tie
 
 abbrev Inv-loop : tie.InvT-loop
-Inv-loop table store mark slot₀ slot = slot₀ ≤ slot
+Inv-loop image slots slot₀ slot = slot₀ ≤ slot
 
 abbrev μ-loop : tie.MeasureT-loop
-μ-loop table store mark slot₀ slot = 512 - slot
+μ-loop image slots slot₀ slot = slots - slot
+
+entry-requires : tie.Need-entry-requires Inv-loop μ-loop
+entry-requires c κs = search needs
 
 word-requires : tie.Need-word-requires Inv-loop μ-loop
 word-requires c κs = search needs
@@ -17,8 +20,8 @@ word-requires c κs = search needs
 loop-holds : tie.Need-loop-holds Inv-loop μ-loop
 loop-holds c = search needs
 
-add-slot-is-zero : tie.Need-add-slot-is-zero Inv-loop μ-loop
-add-slot-is-zero c = search needs
+wrapping-add-usize-requires : tie.Need-wrapping-add-usize-requires Inv-loop μ-loop
+wrapping-add-usize-requires c κs = search needs
 
 slot-is-zero-requires : tie.Need-slot-is-zero-requires Inv-loop μ-loop
 slot-is-zero-requires c κs = search needs
@@ -44,9 +47,10 @@ rest-is-zero-spec =
     (tie.spec
     Inv-loop
     μ-loop
+    entry-requires
     word-requires
     loop-holds
-    add-slot-is-zero
+    wrapping-add-usize-requires
     slot-is-zero-requires
     returns
     add-slot

@@ -1,15 +1,15 @@
--- `oracles::sound::slot_is_zero` is safe and ends. The loop's invariant: its counter is not below its start. The
--- measure is what is left of the range. Assumes nothing.
+-- `oracles::sound::slot_is_zero` is safe and ends. The loop's invariant: its counter is not below its start. The measure
+-- is what is left of the range. Assumes nothing.
 use Prim.Native.Nat.{_≤_, _-_}
 use borrow.Author.Needs.{needs}
 use Rattle.oracles.proofs.sound.slot_is_zero.Statement.{statement}
 use Rattle.oracles.proofs.sound.slot_is_zero.Tie as tie
 
 abbrev Inv-loop : tie.InvT-loop
-Inv-loop table store slot from j₀ j = j₀ ≤ j
+Inv-loop image slot from j₀ j = j₀ ≤ j
 
 abbrev μ-loop : tie.MeasureT-loop
-μ-loop table store slot from j₀ j = 8 - j
+μ-loop image slot from j₀ j = 8 - j
 
 returns : tie.Need-returns Inv-loop μ-loop
 returns c = search needs

@@ -1,15 +1,15 @@
--- `oracles::steps::compared_to` is safe and ends. The loop's invariant: its counter is not below its start. The
--- measure is what is left of the range. Assumes nothing.
+-- `oracles::steps::compared_to` is safe and ends. The loop's invariant: its counter is not below its start. The measure
+-- is what is left of the range. Assumes nothing.
 use Prim.Native.Nat.{_≤_, _-_}
 use borrow.Author.Needs.{needs}
 use Rattle.oracles.proofs.steps.compared_to.Statement.{statement}
 use Rattle.oracles.proofs.steps.compared_to.Tie as tie
 
 abbrev Inv-loop : tie.InvT-loop
-Inv-loop table store slot label from place₀ place = place₀ ≤ place
+Inv-loop image slot label from place₀ place = place₀ ≤ place
 
 abbrev μ-loop : tie.MeasureT-loop
-μ-loop table store slot label from place₀ place = 65 - place
+μ-loop image slot label from place₀ place = 65 - place
 
 loop-holds : tie.Need-loop-holds Inv-loop μ-loop
 loop-holds c = search needs

@@ -1,18 +1,21 @@
--- `oracles::steps::search` is safe and ends. The loop's invariant: its counter stays within its range. The measure is
--- what is left of the range. Assumes nothing.
+-- `oracles::steps::search` is safe and ends. The loop's invariant: its counter is not below its start. The measure
+-- is what is left of the range. Assumes nothing.
 use Prim.Native.Nat.{_≤_, _-_}
 use borrow.Author.Needs.{needs}
 use Rattle.oracles.proofs.steps.search.Statement.{statement}
 use Rattle.oracles.proofs.steps.search.Tie as tie
 
 abbrev Inv-loop : tie.InvT-loop
-Inv-loop table store label at₀ turn₀ at turn = turn ≤ 12
+Inv-loop image label at₀ n turn₀ at turn = turn₀ ≤ turn
 
 abbrev μ-loop : tie.MeasureT-loop
-μ-loop table store label at₀ turn₀ at turn = 12 - turn
+μ-loop image label at₀ n turn₀ at turn = n - turn
 
 word-requires : tie.Need-word-requires Inv-loop μ-loop
 word-requires c κs = search needs
+
+entry-requires : tie.Need-entry-requires Inv-loop μ-loop
+entry-requires c κs = search needs
 
 loop-holds : tie.Need-loop-holds Inv-loop μ-loop
 loop-holds c = search needs
@@ -42,6 +45,7 @@ search-spec =
     Inv-loop
     μ-loop
     word-requires
+    entry-requires
     loop-holds
     met-requires
     add-turn

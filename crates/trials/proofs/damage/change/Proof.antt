@@ -1,15 +1,15 @@
--- `trials::damage::change` is safe and ends. The loop's invariant: its counter stays within its range. The measure is
--- what is left of the range. Assumes nothing.
+-- `trials::damage::change` is safe and ends. The loop's invariant: its counter is not below its start. The measure
+-- is what is left of the range. Assumes nothing.
 use Prim.Native.Nat.{_≤_, _-_}
 use borrow.Author.Needs.{needs}
 use Rattle.trials.proofs.damage.change.Statement.{statement}
 use Rattle.trials.proofs.damage.change.Tie as tie
 
 abbrev Inv-loop : tie.InvT-loop
-Inv-loop table store shape kind seed tally after₀ draw₀ i₀ after draw i = i ≤ 20
+Inv-loop image shape kind seed tally after₀ draw₀ i₀ after draw i = i₀ ≤ i
 
 abbrev μ-loop : tie.MeasureT-loop
-μ-loop table store shape kind seed tally after₀ draw₀ i₀ after draw i = 20 - i
+μ-loop image shape kind seed tally after₀ draw₀ i₀ after draw i = 20 - i
 
 loop-holds : tie.Need-loop-holds Inv-loop μ-loop
 loop-holds c = search needs

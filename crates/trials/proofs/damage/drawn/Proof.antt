@@ -1,15 +1,15 @@
--- `trials::damage::drawn` is safe and ends. The loop's invariant: its counter stays within its range. The measure is
--- what is left of the range. Assumes nothing.
+-- `trials::damage::drawn` is safe and ends. The loop's invariant: its counter is not below its start. The measure
+-- is what is left of the range. Assumes nothing.
 use Prim.Native.Nat.{_≤_, _-_}
 use borrow.Author.Needs.{needs}
 use Rattle.trials.proofs.damage.drawn.Statement.{statement}
 use Rattle.trials.proofs.damage.drawn.Tie as tie
 
 abbrev Inv-loop : tie.InvT-loop
-Inv-loop table store shape kind seed tally table-left₀ store-left₀ j₀ j-end table-left store-left j = j ≤ j-end
+Inv-loop image shape kind seed tally left₀ n j₀ left j = j₀ ≤ j
 
 abbrev μ-loop : tie.MeasureT-loop
-μ-loop table store shape kind seed tally table-left₀ store-left₀ j₀ j-end table-left store-left j = j-end - j
+μ-loop image shape kind seed tally left₀ n j₀ left j = n - j
 
 writes-requires : tie.Need-writes-requires Inv-loop μ-loop
 writes-requires c κs = search needs

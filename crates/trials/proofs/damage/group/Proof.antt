@@ -1,15 +1,15 @@
--- `trials::damage::group` is safe and ends. The loop's invariant: its counter stays within its range. The measure is
--- what is left of the range. Assumes nothing.
+-- `trials::damage::group` is safe and ends. The loop's invariant: its counter is not below its start. The measure
+-- is what is left of the range. Assumes nothing.
 use Prim.Native.Nat.{_≤_, _-_}
 use borrow.Author.Needs.{needs}
 use Rattle.trials.proofs.damage.group.Statement.{statement}
 use Rattle.trials.proofs.damage.group.Tie as tie
 
 abbrev Inv-loop : tie.InvT-loop
-Inv-loop table store shape kind tally₀ seed₀ n i₀ tally seed i = i ≤ n
+Inv-loop image shape kind tally₀ seed₀ n i₀ tally seed i = i₀ ≤ i
 
 abbrev μ-loop : tie.MeasureT-loop
-μ-loop table store shape kind tally₀ seed₀ n i₀ tally seed i = n - i
+μ-loop image shape kind tally₀ seed₀ n i₀ tally seed i = n - i
 
 none-requires : tie.Need-none-requires Inv-loop μ-loop
 none-requires c κs = search needs

@@ -1,15 +1,15 @@
--- `trials::damage::run` is safe and ends. The loop's invariant: its counter stays within its range. The measure is
--- what is left of the range. Assumes nothing.
+-- `trials::damage::run` is safe and ends. The loop's invariant: its counter is not below its start. The measure
+-- is what is left of the range. Assumes nothing.
 use Prim.Native.Nat.{_≤_, _-_}
 use borrow.Author.Needs.{needs}
 use Rattle.trials.proofs.damage.run.Statement.{statement}
 use Rattle.trials.proofs.damage.run.Tie as tie
 
 abbrev Inv-loop : tie.InvT-loop
-Inv-loop table store shape kind₀ kind = kind ≤ 7
+Inv-loop image shape kind₀ kind = kind₀ ≤ kind
 
 abbrev μ-loop : tie.MeasureT-loop
-μ-loop table store shape kind₀ kind = 7 - kind
+μ-loop image shape kind₀ kind = 7 - kind
 
 loop-holds : tie.Need-loop-holds Inv-loop μ-loop
 loop-holds c = search needs
@@ -17,8 +17,8 @@ loop-holds c = search needs
 group-requires : tie.Need-group-requires Inv-loop μ-loop
 group-requires c κs = search needs
 
-print-requires : tie.Need-print-requires Inv-loop μ-loop
-print-requires c κs = search needs
+print-damage-requires : tie.Need-print-damage-requires Inv-loop μ-loop
+print-damage-requires c κs = search needs
 
 add-kind : tie.Need-add-kind Inv-loop μ-loop
 add-kind c = search needs
@@ -40,7 +40,7 @@ run-spec =
     μ-loop
     loop-holds
     group-requires
-    print-requires
+    print-damage-requires
     add-kind
     loop-less
     loop-again

@@ -1,0 +1,204 @@
+// The changes that damage a sound table: what is written where.
+use oracles::memory;
+use oracles::memory::Image;
+use samples::numbers;
+use std::num::wrapping_add_usize;
+use std::num::wrapping_sub_usize;
+
+// The kinds of change: one word, two or three at once; one byte; two rows exchanged; a link between the tree and the
+// freed slots; a link back to a node above, or to a freed slot earlier in the chain.
+pub const KINDS: usize = 7;
+
+pub const BYTE: usize = 3;
+
+pub const ROWS: usize = 4;
+
+pub const FREED: usize = 5;
+
+pub const CYCLE: usize = 6;
+
+// An entry of the image, and what is written there.
+pub struct Written {
+    pub entry: usize,
+    pub to: usize,
+}
+
+// A word of the table becomes a number; where there is no such word, nothing.
+fn word_to(word: usize, to: usize) -> Written {
+    let mut entry = 65535;
+    if word < 4101 {
+        entry = memory::TABLE + word;
+    }
+    Written {
+        entry: entry,
+        to: to,
+    }
+}
+
+// How many entries a change writes.
+pub fn writes(kind: usize) -> usize {
+    match kind {
+        0 => 1,
+        1 => 2,
+        2 => 3,
+        ROWS => 16,
+        _ => 1,
+    }
+}
+
+// How many entries must differ, at least, for the change to be one of its kind.
+pub fn differing(kind: usize) -> usize {
+    match kind {
+        1 => 2,
+        2 => 3,
+        ROWS => 2,
+        _ => 1,
+    }
+}
+
+// Written `j` of a change, with its number of the generator.
+pub fn write(image: &Image, kind: usize, seed: u64, j: usize) -> Written {
+    match kind {
+        BYTE => byte_write(image, seed),
+        ROWS => row_write(image, seed, j),
+        FREED => freed_write(image, seed),
+        CYCLE => cycle_write(image, seed),
+        _ => word_write(image, numbers::mixed_seed(seed, j)),
+    }
+}
+
+// The slots up to the high mark, and one above it if there is one.
+fn slots(image: &Image) -> usize {
+    let mark = memory::word(image, memory::MARK);
+    let all = memory::entry(image, memory::SLOTS);
+    if mark < all {
+        return mark + 1;
+    }
+    all
+}
+
+fn word_write(image: &Image, seed: u64) -> Written {
+    let word = numbers::below(seed, 4 + 8 * (slots(image) % 513));
+    word_to(
+        word,
+        another(memory::word(image, word), numbers::next(seed)),
+    )
+}
+
+fn byte_write(image: &Image, seed: u64) -> Written {
+    let all = memory::part_start(image, wrapping_add_usize(slots(image), 1));
+    let byte = numbers::below(seed, all);
+    Written {
+        entry: wrapping_add_usize(memory::STORE, byte),
+        to: another(memory::store_byte(image, byte), numbers::next(seed)) % 256,
+    }
+}
+
+// Another number, or by chance the same: one beside it, 0, a small one, one about the number of slots, or any.
+fn another(found: usize, seed: u64) -> usize {
+    let other = numbers::next(seed);
+    match numbers::below(seed, 6) {
+        0 => wrapping_add_usize(found, 1),
+        1 => wrapping_sub_usize(found, 1),
+        2 => 0,
+        3 => numbers::below(other, 50),
+        4 => wrapping_add_usize(numbers::below(other, 2), 512),
+        _ => numbers::below(other, 65536),
+    }
+}
+
+// One of these slots.
+fn any_slot(image: &Image, seed: u64) -> usize {
+    wrapping_add_usize(numbers::below(seed, slots(image)), 1)
+}
+
+// Word `j` of a slot becomes a number.
+fn slot_write(slot: usize, j: usize, to: usize) -> Written {
+    word_to(
+        wrapping_sub_usize(wrapping_add_usize(8 * (slot % 513), j), 4),
+        to,
+    )
+}
+
+// The eight words of two slots change places.
+fn row_write(image: &Image, seed: u64, j: usize) -> Written {
+    let one = any_slot(image, seed);
+    let other = any_slot(image, numbers::next(seed));
+    if j < 8 {
+        return slot_write(one, j, memory::field(image, other, j));
+    }
+    slot_write(other, j - 8, memory::field(image, one, j - 8))
+}
+
+// A link of the head or of a node to a freed slot, or of the chain to a node.
+fn freed_write(image: &Image, seed: u64) -> Written {
+    let owner = numbers::below(seed, slots(image));
+    let side = numbers::below(numbers::next(seed), 2);
+    if owner == 0 {
+        return head_write(image, side, seed);
+    }
+    if in_use(image, owner) {
+        return slot_write(owner, side, slot_by_use(image, seed, false));
+    }
+    slot_write(owner, memory::LEFT, slot_by_use(image, seed, true))
+}
+
+fn head_write(image: &Image, side: usize, seed: u64) -> Written {
+    if side == 0 {
+        return word_to(memory::ROOT, slot_by_use(image, seed, false));
+    }
+    word_to(memory::FREE, slot_by_use(image, seed, true))
+}
+
+fn in_use(image: &Image, slot: usize) -> bool {
+    memory::field(image, slot, memory::LENGTH) > 0
+}
+
+// A slot up to the high mark that is in use, or one that is freed: the first from a drawn one on.
+fn slot_by_use(image: &Image, seed: u64, used: bool) -> usize {
+    let mark = memory::word(image, memory::MARK);
+    let mut slot = numbers::below(numbers::next(numbers::next(seed)), mark);
+    for i in 0..mark {
+        slot = wrapping_add_usize(slot, 1);
+        if slot > mark {
+            slot = 1;
+        }
+        if in_use(image, slot) == used {
+            return slot;
+        }
+    }
+    slot
+}
+
+// A link to a node above, or to a freed slot earlier in the chain, or to the slot itself.
+fn cycle_write(image: &Image, seed: u64) -> Written {
+    let steps = numbers::next(seed);
+    if numbers::below(seed, 4) == 0 {
+        let earlier = walked(image, memory::word(image, memory::FREE), 0, steps);
+        let later = walked(image, earlier, 0, numbers::next(steps));
+        return slot_write(later, memory::LEFT, earlier);
+    }
+    let above = walked(image, memory::word(image, memory::ROOT), seed, steps);
+    let below = walked(image, above, steps, numbers::next(steps));
+    slot_write(below, numbers::below(numbers::next(steps), 2), above)
+}
+
+// Where up to seven links lead from a slot, on the sides that one number says, as many as another says.
+fn walked(image: &Image, from: usize, sides: u64, steps: u64) -> usize {
+    let mut slot = from;
+    let mut side = sides;
+    let n = numbers::below(steps, 8);
+    for i in 0..n {
+        side = side / 2;
+        slot = son_or_self(image, slot, (side % 2) as usize);
+    }
+    slot
+}
+
+fn son_or_self(image: &Image, slot: usize, side: usize) -> usize {
+    let son = memory::field(image, slot, side);
+    if son > 0 {
+        return son;
+    }
+    slot
+}

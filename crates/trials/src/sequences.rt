@@ -1,0 +1,73 @@
+// The groups of calls on sound tables, made and counted.
+use oracles::memory;
+use oracles::memory::Image;
+use plainmap::lists::Lists;
+use plans::groups;
+use plans::groups::Plan;
+use plans::groups::Planned;
+use reports::Round;
+use reports::faults;
+use reports::tallies;
+use reports::tallies::Tally;
+use samples::numbers;
+use samples::shapes;
+
+// Makes a group's calls on an empty index and map, and prints its line.
+pub fn run(image: &mut Image, map: &mut Lists, group: usize) {
+    let plan = groups::plan_of(group);
+    rounds::calls::make(image, samples::calls::LAYOUT, b"", 0);
+    plainmap::clear(
+        map,
+        memory::entry(image, memory::SLOTS),
+        memory::entry(image, memory::WIDTH),
+    );
+    tallies::print_sequence(plan.shape, plan.way, made(image, map, plan));
+}
+
+fn made(image: &mut Image, map: &mut Lists, plan: Plan) -> Tally {
+    let mut tally = tallies::none();
+    let mut seed = numbers::SEED;
+    let n = plan.calls;
+    for i in 0..n {
+        seed = numbers::next(seed);
+        let counted = call(image, map, groups::call(plan, i, seed), tally);
+        tally = counted;
+        seed = numbers::next(seed);
+    }
+    tally
+}
+
+fn call(image: &mut Image, map: &mut Lists, planned: Planned, tally: Tally) -> Tally {
+    let mut label = [0u8; 66];
+    let n = shapes::write(&mut label, planned.shape, planned.label);
+    let value = numbers::value(planned.label, tallies::get(tally, tallies::INSERTED));
+    let round = labelled(image, map, planned, shapes::opening(&label, n), value);
+    tallies::count(tally, planned.call, round, plainmap::held(map))
+}
+
+// Makes a call on a label; where it has a fault it is printed.
+fn labelled(
+    image: &mut Image,
+    map: &mut Lists,
+    planned: Planned,
+    label: &[u8],
+    value: usize,
+) -> Round {
+    let mut round = rounds::made(image, map, planned.call, label, value);
+    let fault = fault_of(round, planned.refusal);
+    if fault > 0 {
+        tallies::print_mismatch(planned.call, label, fault);
+    }
+    round.fault = fault;
+    round
+}
+
+// The fault of a call that was to have a refusal's number.
+fn fault_of(round: Round, refusal: usize) -> usize {
+    if refusal != groups::ANY_REFUSAL {
+        if refusal != round.refusal {
+            return faults::CASE;
+        }
+    }
+    round.fault
+}
