@@ -17,7 +17,7 @@ use Rattle.tables.specs.Written.{Memory, writtenTable, writtenStore}
 use Rattle.tables.specs.Steps.{isBad, searchSteps}
 use Rattle.tables.specs.Sound.{wordsAndBytes, counted, soundAs, sound, stateOf}
 use Rattle.tables.specs.Outcomes.{Outcome, searchOutcome, layoutOutcome, updateOutcome, listingOutcome}
-use Rattle.tables.specs.Cases.{a, b, c, three, laidOut}
+use Rattle.cases.specs.Cases.{a, b, c, three, laidOut}
 use Rattle.tables.specs.Claims.{LabelFits}
 use Rattle.demands.specs.Counts.{afterList}
 use Rattle.demands.specs.Trials.{Fair}

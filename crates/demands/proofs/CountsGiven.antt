@@ -1,7 +1,7 @@
 -- The counts that an answer gives are those of its search steps, in every version that meets the contract.
 -- search-counts, update-counts: so it is of searches, and of inserts and deletes.
 use mathlib.Core.List.{List}
-use mathlib.Core.Path.{_≡_, sym, ap, _∙_}
+use mathlib.Core.Path.{sym, ap, _∙_}
 use Prim.Native.Nat.{ℕ}
 use lib.ListN.{length}
 use Rattle.types.specs.Sizes.{hub}

@@ -3,7 +3,6 @@
 -- found-read: so is the label of the node that a search finds, which is the label sought.
 use mathlib.Core.List.{_∷_, _++_, map, map-append}
 use mathlib.Core.Path.{_≡_, refl, sym, ap₂, _∙_}
-use Prim.Native.Nat.{ℕ}
 use Rattle.types.specs.declared.Limits.{Limits}
 use Rattle.labels.specs.Labels.{Label, Comparison, smaller, same, larger, compareLabels}
 use Rattle.labels.specs.Neighbours.{Neighbour, held}

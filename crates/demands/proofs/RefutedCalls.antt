@@ -23,7 +23,7 @@ use Rattle.tables.specs.Sound.{stateOf}
 use Rattle.tables.specs.Outcomes.{Verdict, pass, refuse, Outcome, outcomeBy, Listing, listingBy}
 use Rattle.tables.specs.Outcomes.{ofMemory, ofLabel, ofTable, ofList, replyAnswer, memoryAfter, settled}
 use Rattle.tables.specs.Outcomes.{layoutOutcome, updateOutcome, listingOutcome}
-use Rattle.tables.specs.Cases.{a}
+use Rattle.cases.specs.Cases.{a}
 use Rattle.demands.specs.Trials.{UpdateVersion, MeetsUpdate, lent}
 use Rattle.demands.specs.CallTrials.{LayoutVersion, MeetsLayout, ListingVersion, MeetsListing, LayoutsRefused}
 use Rattle.demands.specs.CallTrials.{ListingsAnswer, Spoils, SpoilsList, clearing, clearingList}

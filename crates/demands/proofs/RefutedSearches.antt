@@ -15,7 +15,7 @@ use Rattle.labels.specs.Labels.{Label}
 use Rattle.labels.proofs.Clashes.{clash}
 use Rattle.trees.specs.Plain.{Call}
 use Rattle.tables.specs.Steps.{searchSteps}
-use Rattle.tables.specs.Cases.{a, b}
+use Rattle.cases.specs.Cases.{a, b}
 use Rattle.demands.specs.Trials.{SearchVersion, MeetsSearch, NeverFinds, Count, visits, places, ofCounts}
 use Rattle.demands.specs.Trials.{countIn, countOf, SearchesAnswer, SearchesCount, SkipsFirst, StopsAtZero}
 use Rattle.demands.proofs.Computed.{after, fair-one, fair-two, searched, onlyA, shown}

@@ -19,7 +19,7 @@ use Rattle.tables.specs.Words.{labelsHeld, rowAt}
 use Rattle.tables.specs.Written.{Memory}
 use Rattle.tables.specs.Steps.{searchSteps}
 use Rattle.tables.specs.Outcomes.{Outcome}
-use Rattle.tables.specs.Cases.{a, b, c, three}
+use Rattle.cases.specs.Cases.{a, b, c, three}
 use Rattle.demands.specs.Trials.{UpdateVersion, MeetsUpdate, Count, countIn, countOf}
 use Rattle.demands.specs.UpdateTrials.{InsertsAnswer, InsertsCount, DeletesCount, DeletesAnswer, InsertsIdle}
 use Rattle.demands.specs.UpdateTrials.{InsertsOnce, SideIs, Numbers, lastNumbers, SidesByNumbers}

@@ -1,9 +1,8 @@
--- The tests before an update.
--- `early-unread`, `early-sound`, `early-unsound`: what the whole table's test decides past the lengths.
+-- What the tests before an update decide of it.
 -- `refused-insert`, `refused-delete`: a refused call.
 -- `ready`: past the tests the memory is sound and the label fits.
 use mathlib.Core.List.{List}
-use mathlib.Core.Bool.{Bool, true, false, not}
+use mathlib.Core.Bool.{not}
 use mathlib.Core.Path.{_≡_, refl, sym, ap, _∙_}
 use Prim.Native.Nat.{ℕ}
 use borrow.Author.Tests.{not-false}
@@ -14,33 +13,15 @@ use Rattle.labels.specs.Labels.{Label}
 use Rattle.trees.specs.Plain as plain
 use Rattle.trees.specs.Plain.{Call}
 use Rattle.tables.specs.Sound.{sound}
-use Rattle.tables.specs.Outcomes.{Verdict, pass, refuse, line, ofMemory, ofLabel, ofTable, Outcome, outcomeBy}
+use Rattle.tables.specs.Outcomes.{Verdict, pass, refuse, ofLabel, ofTable, Outcome, outcomeBy}
 use Rattle.tables.specs.Outcomes.{updateOutcome, insertOutcome, deleteOutcome}
 use Rattle.views.specs.Given.{Gives}
-use Rattle.words.specs.declared.Early.{Early}
-use Rattle.words.specs.declared.Early.the-variants.{Pass, Refused}
-use Rattle.words.specs.Early.{earlySays}
-use Rattle.words.proofs.FirstLines.{line-passed, lengths-refused, lengths-passed, sizes-passed, label-passed}
-use Rattle.endings.specs.Ready.{EditsFit, updateVerdict, Ready}
-
--- past the lengths the whole table decides
-module _ (limits : Limits) (table store : List ℕ) (x : Label) (early : Early)
-    (says : earlySays early ≡ ofMemory limits table store (ofLabel limits x pass)) where
-  pub early-unread : (r : Refusal) → early ≡ Refused r → earlySays early ≡ updateVerdict limits table store x
-  unfolding updateVerdict
-  early-unread r e =
-      ap earlySays e ∙ sym (lengths-refused limits table store x early says r e (ofTable limits table store pass))
-
-  module _ (passed : early ≡ Pass) (tested : Bool) (is-sound : tested ≡ sound limits table store) where
-    early-by : updateVerdict limits table store x ≡ line (not tested) 6 pass
-    unfolding updateVerdict
-    early-by = rw is-sound (lengths-passed limits table store x early says passed (ofTable limits table store pass))
-
-    pub early-sound : tested ≡ true → pass ≡ updateVerdict limits table store x
-    early-sound so = rw (early-by, so)
-
-    pub early-unsound : tested ≡ false → refuse 6 ≡ updateVerdict limits table store x
-    early-unsound so = rw (early-by, so)
+use Rattle.lengths.specs.declared.Early.{Early}
+use Rattle.lengths.specs.declared.Early.the-variants.{Pass, Refused}
+use Rattle.lengths.specs.Early.{earlySays}
+use Rattle.lengths.proofs.FirstLines.{line-passed, sizes-passed, label-passed}
+use Rattle.verdicts.specs.Verdicts.{updateVerdict}
+use Rattle.endings.specs.Ready.{EditsFit, Ready}
 
 -- What the tests before the map say of an update is what they say of its label.
 module _ (limits : Limits) (table store : List ℕ) where

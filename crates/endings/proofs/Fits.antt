@@ -14,7 +14,7 @@ use Rattle.written.proofs.Rows.{mark-of-written}
 use Rattle.demands.proofs.OnSound.{of-sound}
 use Rattle.traces.specs.declared.Trace.{Trace}
 use Rattle.fields.specs.Fits.{RowsFit}
-use Rattle.updates.specs.Fits.{CanInsert}
+use Rattle.insertions.specs.Fits.{CanInsert}
 use Rattle.traces.specs.Traces.{TraceFits}
 use Rattle.rewritten.proofs.WrittenFits.{rows-fit-written}
 use Rattle.endings.specs.Ready.{EditsFit, Ready}

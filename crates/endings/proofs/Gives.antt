@@ -1,6 +1,5 @@
 -- What insert and delete give and leave where they end, once their refusals are past.
 -- `insert-held`, `insert-full`, `insert-new`: an insert. `delete-missing`, `delete-gone`: a delete.
--- `refused-early`: a call that its first tests refuse. `past-refusals`: what those tests leave.
 use mathlib.Core.List.{List}
 use mathlib.Core.Path.{_≡_, sym, ap}
 use Prim.Native.Nat.{ℕ, _≤_, _<_}
@@ -18,8 +17,8 @@ use Rattle.views.specs.Given.{Gives}
 use Rattle.traces.specs.declared.Trace.{Trace}
 use Rattle.slots.specs.Slots.{slotTaken, withLabel, withoutLabel}
 use Rattle.traces.specs.Traces.{traced}
-use Rattle.updates.specs.Inserts.{insertedTable, insertedMemory}
-use Rattle.updates.specs.Deletes.{deletedTable, deletedMemory}
+use Rattle.insertions.specs.Insertions.{insertedTable, insertedMemory}
+use Rattle.deletions.specs.Deletions.{deletedTable, deletedMemory}
 use Rattle.rewritten.proofs.Traces.{Way}
 use Rattle.rewritten.proofs.Ways.{way-of-trace}
 use Rattle.endings.specs.Ready.{Ready}

@@ -27,8 +27,8 @@ use Rattle.demands.proofs.OnSound.{of-sound}
 use Rattle.demands.proofs.MapSteps.{step-of-fitting}
 use Rattle.traces.specs.declared.Trace.{Trace}
 use Rattle.slots.specs.Slots.{slotTaken}
-use Rattle.updates.specs.Inserts.{insertedMemory}
-use Rattle.updates.specs.Deletes.{deletedMemory}
+use Rattle.insertions.specs.Insertions.{insertedMemory}
+use Rattle.deletions.specs.Deletions.{deletedMemory}
 use Rattle.rewritten.proofs.Traces.{Ends, Way}
 use Rattle.rewritten.proofs.Fresh.{slot-taken}
 use Rattle.rewritten.proofs.FromRows.{slot-of-valid}

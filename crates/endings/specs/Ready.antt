@@ -1,10 +1,9 @@
--- What insert and delete test first, and what they take for granted past those tests.
+-- What insert and delete take for granted past their first tests.
 use mathlib.Core.List.{List}
 use Prim.Native.Nat.{ℕ}
 use Rattle.types.specs.declared.Limits.{Limits}
 use Rattle.labels.specs.Labels.{Label}
 use Rattle.trees.specs.Heights.{Deepest}
-use Rattle.tables.specs.Outcomes.{Verdict, pass, ofMemory, ofLabel, ofTable}
 use Rattle.tables.specs.Claims.{Sound, LabelFits}
 use Rattle.words.specs.Limits.{LimitsFit}
 
@@ -13,11 +12,7 @@ pub record EditsFit (limits : Limits) : Type 0 where
   pub fit : LimitsFit limits
   pub deepest : Deepest (limits .slots) (limits .depth)
 
--- the lines of the table of refusals that come before the map
-unfoldable pub updateVerdict : Limits → (table store : List ℕ) → Label → Verdict
-updateVerdict limits table store x = ofMemory limits table store (ofLabel limits x (ofTable limits table store pass))
-
--- past them: the memory is sound, and the label fits
+-- past the tests that come before the map: the memory is sound, and the label fits
 pub record Ready (limits : Limits) (table store : List ℕ) (x : Label) : Type 0 where
   pub limits-fit : EditsFit limits
   pub sound : Sound limits (record { table = table; store = store })

@@ -35,7 +35,7 @@ pub fn insert(table: &mut [u16], store: &mut [u8], label: &[u8], value: u16) -> 
         Gives (insertOutcome hub (now (table .entry)) (now (store .entry)) (now (label .entry)) value)
         (updateSays r) (now (table .exit)) (now (store .exit)) ⌝ }
 {
-    edits::insert_within(types::hub(), table, store, label, value)
+    inserts::insert_within(types::hub(), table, store, label, value)
 }
 
 // Deletes a label: the slot it freed, and its search's counts. Refused by 1, 2, 3, 4, 6 and 8.
@@ -44,14 +44,14 @@ pub fn delete(table: &mut [u16], store: &mut [u8], label: &[u8]) -> UpdateAnswer
         Gives (deleteOutcome hub (now (table .entry)) (now (store .entry)) (now (label .entry)))
         (updateSays r) (now (table .exit)) (now (store .exit)) ⌝ }
 {
-    edits::delete_within(types::hub(), table, store, label)
+    deletes::delete_within(types::hub(), table, store, label)
 }
 
 // Tests the whole table and store. Refused by 1, 2 and, where they are not sound, 6.
 pub fn check(table: &[u16], store: &[u8]) -> DoneAnswer
     ensures { λ r. ⌜ doneSays r ≡ checkOutcome hub (now (table .entry)) (now (store .entry)) ⌝ }
 {
-    lists::check_within(types::hub(), table, store)
+    verdicts::check_within(types::hub(), table, store)
 }
 
 // Writes the slots in ascending label order into a lent list, and gives their number; later words stay.

@@ -9,7 +9,7 @@ use Rattle.types.specs.Sizes.{hub, tableLength, storeLength}
 use Rattle.tables.specs.Written.{Memory}
 use Rattle.tables.specs.Outcomes.{Outcome, layoutOutcome, insertOutcome, deleteOutcome, searchOutcome}
 use Rattle.lines.specs.Commands.{Asked, insert, delete, search, bad, asks}
-use Rattle.lines.specs.Texts.{textOf, badText}
+use Rattle.texts.specs.Texts.{textOf, badText}
 
 -- a byte before lines belongs to the first of them; before none it is a line
 abbrev pub startedBy : ℕ → List (List ℕ) → List (List ℕ)

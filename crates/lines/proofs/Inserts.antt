@@ -13,9 +13,10 @@ use borrow.Author.Tests.{ne-eqb}
 use lib.ListN.{length, drop, getD, drop-of-length-le}
 use lib.Seq.{drop-cons}
 use Rattle.labels.specs.Labels.{Label}
-use Rattle.lines.specs.declared.Value as value
-use Rattle.lines.specs.Commands.{Asked, insert, bad, insertOf, isValue, decimalAfter}
-use Rattle.lines.specs.Scans.{valueOf, valueSays}
+use Rattle.decimals.specs.declared.Value as value
+use Rattle.decimals.specs.Decimals.{isValue, decimalAfter}
+use Rattle.decimals.specs.Values.{valueOf, valueSays}
+use Rattle.lines.specs.Commands.{Asked, insert, bad, insertOf}
 
 -- an insert of a label, if there is a value
 abbrev insertWith : Label → Option ℕ → Asked

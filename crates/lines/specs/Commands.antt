@@ -1,10 +1,11 @@
 -- What a line of `hubshell` asks (document 01, below 'Worked on paper'). A line is its bytes, without the byte 10.
 use mathlib.Core.List.{List, [], _∷_}
-use mathlib.Core.Bool.{Bool, true, false, not, _&&_, cond}
-use Prim.Native.Nat.{ℕ, _+_, _-_, _*_}
+use mathlib.Core.Bool.{Bool, _&&_, cond}
+use Prim.Native.Nat.{ℕ, _-_}
 use lib.Dec.{eqb, leb, ltb}
 use lib.ListN.{length, take, drop}
 use Rattle.labels.specs.Labels.{Label}
+use Rattle.decimals.specs.Decimals.{decimalAfter, isValue}
 use Rattle.lines.specs.declared.Command as code
 
 -- what a line asks: a call of the index, or nothing
@@ -33,29 +34,6 @@ labelAtFront (byte ∷ more) = cond (isLabelByte byte) (byte ∷ labelAtFront mo
 abbrev pub afterLabel : List ℕ → List ℕ
 afterLabel [] = []
 afterLabel (byte ∷ more) = cond (isLabelByte byte) (afterLabel more) (byte ∷ more)
-
-abbrev pub isDigit : ℕ → Bool
-isDigit byte = leb 48 byte && leb byte 57
-
-abbrev pub allDigits : List ℕ → Bool
-allDigits [] = true
-allDigits (byte ∷ more) = isDigit byte && allDigits more
-
--- the number that digits write, after those that write n
-abbrev pub decimalAfter : ℕ → List ℕ → ℕ
-decimalAfter n [] = n
-decimalAfter n (byte ∷ more) = decimalAfter (10 * n + (byte - 48)) more
-
--- a first digit 0 with others after it
-abbrev pub needlessZero : List ℕ → Bool
-needlessZero [] = false
-needlessZero (byte ∷ []) = false
-needlessZero (byte ∷ next ∷ more) = eqb byte 48
-
--- "a value is decimal 0 to 65535 without needless leading zeros"
-abbrev pub isValue : List ℕ → Bool
-isValue text =
-    not (eqb (length text) 0) && (allDigits text && (not (needlessZero text) && leb (decimalAfter 0 text) 65535))
 
 -- after the label of an insert: one space, and a value
 abbrev pub insertOf : Label → List ℕ → Asked

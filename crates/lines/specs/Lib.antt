@@ -1,4 +1,2 @@
 pub mod Commands
-pub mod Texts
 pub mod Scans
-pub mod Puts

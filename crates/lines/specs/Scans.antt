@@ -1,14 +1,11 @@
--- What the parts of the reading of a line give: where a label ends, and the value of an insert.
+-- What the parts of the reading of a line give: where a label ends, and that it is a part of the line.
 use mathlib.Core.List.{List, [], _∷_}
-use mathlib.Core.Bool.{_&&_, cond}
-use mathlib.Core.Option.{Option, none, some}
+use mathlib.Core.Bool.{cond}
 use Prim.Native.Nat.{ℕ, suc, _+_, _≤_}
 use mathlib.Core.Path.{_≡_}
-use lib.Dec.{leb}
 use lib.ListN.{length, drop}
 use Rattle.lines.specs.declared.Command as code
-use Rattle.lines.specs.declared.Value as value
-use Rattle.lines.specs.Commands.{isLabelByte, allDigits, decimalAfter, isValue}
+use Rattle.lines.specs.Commands.{isLabelByte}
 
 -- the length of the label at the front of a text
 abbrev pub labelLength : List ℕ → ℕ
@@ -37,16 +34,3 @@ labelEnd code.the-variants.Bad = 0
 pub record LabelWithin (line : List ℕ) (asked : code.Command) : Type 0 where
   pub starts : labelStart asked ≤ labelEnd asked
   pub ends : labelEnd asked ≤ length line
-
--- the number that the code gives for a value, if it is one
-abbrev pub valueSays : value.Value → Option ℕ
-valueSays (value.the-variants.Of number) = some number
-valueSays value.the-variants.Missing = none
-
--- the value that a text writes, if it writes one
-unfoldable pub valueOf : List ℕ → Option ℕ
-valueOf text = cond (isValue text) (some (decimalAfter 0 text)) none
-
--- the number that digits write, after those that write n, if they are digits and it is at most 65535
-unfoldable pub valueAfter : ℕ → List ℕ → Option ℕ
-valueAfter n text = cond (allDigits text && leb (decimalAfter n text) 65535) (some (decimalAfter n text)) none

@@ -1,11 +1,11 @@
 // What a line asks: `I label value`, `D label`, `S label`, or nothing. A line is its bytes, without the byte 10.
 use crate::Command;
-use crate::Value;
+use decimals::Value;
 ghost use mathlib.Core.Path.{_≡_};
-ghost use Prim.Native.Nat.{_≤_, _<_, _+_, _-_};
+ghost use Prim.Native.Nat.{_≤_, _-_};
 ghost use lib.ListN.{length, take, drop};
 ghost use Rattle.lines.specs.Commands.{asks, askedBy, byLetter, insertOf, isLabelByte};
-ghost use Rattle.lines.specs.Scans.{LabelEnds, LabelWithin, valueSays, valueOf, valueAfter};
+ghost use Rattle.lines.specs.Scans.{LabelEnds, LabelWithin};
 
 // The command of a line of any bytes and any length. Its label is a part of the line.
 pub fn command_of(line: &[u8]) -> Command
@@ -60,7 +60,7 @@ fn insertion(line: &[u8], end: usize) -> Command
     if line[end] != 32 {
         return Command::Bad;
     }
-    let found = value_from(line, end + 1);
+    let found = decimals::value_from(line, end + 1);
     match found {
         Value::Of(value) => Command::Insert { end, value },
         Value::Missing => Command::Bad,
@@ -81,47 +81,6 @@ fn label_end(line: &[u8], start: usize) -> usize
         }
     }
     end
-}
-
-// The value that the bytes from `start` on write: at least one, and no needless zero first.
-fn value_from(line: &[u8], start: usize) -> Value
-    requires { ⌜ start ≤ length (now line) ⌝ }
-    ensures { λ r. ⌜ valueSays r ≡ valueOf (drop start (now (line .entry))) ⌝ }
-{
-    if line.len() <= start {
-        return Value::Missing;
-    }
-    if line[start] != 48 {
-        return digits_from(line, start);
-    }
-    if line.len() - start == 1 {
-        return Value::Of(0);
-    }
-    Value::Missing
-}
-
-// The number that the bytes from `start` on write, if all are digits and it is at most 65535.
-fn digits_from(line: &[u8], start: usize) -> Value
-    requires { ⌜ start ≤ length (now line) ⌝ }
-    ensures { λ r. ⌜ valueSays r ≡ valueAfter 0 (drop start (now (line .entry))) ⌝ }
-{
-    let mut number: u32 = 0;
-    let mut i = start;
-    while i < line.len() {
-        let byte = line[i];
-        if byte < 48 {
-            return Value::Missing;
-        }
-        if 57 < byte {
-            return Value::Missing;
-        }
-        number = 10 * number + (byte - 48) as u32;
-        if 65535 < number {
-            return Value::Missing;
-        }
-        i += 1;
-    }
-    Value::Of(number as u16)
 }
 
 // "A label is any number of bytes 33 to 126"

@@ -1,11 +1,9 @@
--- The outcomes of the check and of the listing, by the tests that come first.
--- `whole-unread`, `whole-sound`, `whole-unsound`: what the soundness test decides past the lent lengths.
--- `check-refused`, `check-passed`: the check's answer.
+-- The outcome of the listing, by the tests that come first.
 -- `listing-refused`, `listing-passed`: the listing's answer and list.
 -- `list-ready`: what the listing takes for granted past those tests.
 -- `listing-short`, `listing-done`: what it then gives and leaves.
 use mathlib.Core.List.{List, _++_}
-use mathlib.Core.Bool.{Bool, true, false, not}
+use mathlib.Core.Bool.{true, not}
 use mathlib.Core.Path.{_≡_, refl, sym, ap, _∙_}
 use Prim.Native.Nat.{ℕ, _≤_, _<_}
 use native.Mathlib.Nat.{zero-add}
@@ -14,58 +12,32 @@ use lib.ListN.{length, drop}
 use borrow.Author.Tests.{not-false, lt-ltb, le-ltb}
 use Rattle.types.specs.declared.Limits.{Limits}
 use Rattle.types.specs.declared.Refusal.{Refusal}
-use Rattle.types.specs.Answers.{Answer, done, listed, refused, refusalNumber}
+use Rattle.types.specs.Answers.{Answer, listed, refused, refusalNumber}
 use Rattle.tables.specs.Words.{labelsHeld}
 use Rattle.tables.specs.Sound.{sound}
-use Rattle.tables.specs.Outcomes.{pass, refuse, line, ofMemory, ofTable, ofList, listingOutcome, checkOutcome}
-use Rattle.words.specs.declared.Early.{Early}
-use Rattle.words.specs.declared.Early.the-variants.{Pass, Refused}
-use Rattle.words.specs.Early.{earlySays}
+use Rattle.tables.specs.Outcomes.{pass, ofTable, ofList, listingOutcome}
+use Rattle.lengths.specs.declared.Early.{Early}
+use Rattle.lengths.specs.declared.Early.the-variants.{Pass, Refused}
+use Rattle.lengths.specs.Early.{earlySays}
 use Rattle.words.specs.Limits.{LimitsFit, SizesFit}
-use Rattle.words.proofs.FirstLines.{Decides, one-line, in-turn, memory-decides, lines-refused, lines-passed}
-use Rattle.words.proofs.FirstLines.{line-passed, memory-refused, memory-passed, sizes-passed}
+use Rattle.lengths.proofs.FirstLines.{lines-refused, lines-passed, line-passed, sizes-passed}
+use Rattle.verdicts.specs.Verdicts.{ofWhole}
+use Rattle.verdicts.proofs.WholeTests.{whole-decides}
 use Rattle.lists.specs.Given.{Lists}
-use Rattle.lists.specs.Listed.{slotsListed, ofWhole, listingReady, ListReady, Filled}
+use Rattle.lists.specs.Listed.{slotsListed, listingReady, ListReady, Filled}
 use Rattle.lists.proofs.ListLaws.{sets-from-start}
 use Rattle.lists.proofs.SoundLists.{slots-of-sound}
 
--- past the lent lengths the soundness test decides
-module _ (limits : Limits) (table store : List ℕ) (early : Early)
-    (says : earlySays early ≡ ofMemory limits table store pass) where
-  pub whole-unread : (r : Refusal) → early ≡ Refused r → earlySays early ≡ ofWhole limits table store pass
-  whole-unread r e = ap earlySays e ∙ sym (memory-refused limits table store early says r e _)
-
-  module _ (passed : early ≡ Pass) (tested : Bool) (is-sound : tested ≡ sound limits table store) where
-    pub whole-sound : tested ≡ true → pass ≡ ofWhole limits table store pass
-    whole-sound e =
-        rw (memory-passed limits table store early says passed (ofTable limits table store pass), ← is-sound, e)
-
-    pub whole-unsound : tested ≡ false → refuse 6 ≡ ofWhole limits table store pass
-    whole-unsound e =
-        rw (memory-passed limits table store early says passed (ofTable limits table store pass), ← is-sound, e)
-
--- what these tests decide of the calls
+-- what the tests of a whole table decide of the listing
 module _ (limits : Limits) (table store : List ℕ) (early : Early)
     (says : earlySays early ≡ ofWhole limits table store pass) where
-  whole-decides : Decides (ofWhole limits table store)
-  whole-decides =
-      let unsound = not (sound limits table store) in
-      in-turn (ofMemory limits table store) (line unsound 6) (memory-decides limits table store) (one-line unsound 6)
-
-  pub check-refused : (r : Refusal) → early ≡ Refused r → refused (refusalNumber r) ≡ checkOutcome limits table store
-  unfolding checkOutcome
-  check-refused r e = rw (lines-refused (ofWhole limits table store) whole-decides early says r e pass)
-
-  pub check-passed : early ≡ Pass → done ≡ checkOutcome limits table store
-  unfolding checkOutcome
-  check-passed e = rw (lines-passed (ofWhole limits table store) whole-decides early says e pass)
-
   module _ (list : List ℕ) where
     pub listing-refused : (r : Refusal) → early ≡ Refused r
         → Lists (listingOutcome limits table store list) (refused (refusalNumber r)) list
     unfolding listingOutcome
     listing-refused r e =
-        rw (lines-refused (ofWhole limits table store) whole-decides early says r e (ofList table list pass))
+        let decides = whole-decides limits table store in
+        rw (lines-refused (ofWhole limits table store) decides early says r e (ofList table list pass))
         (record { answer = refl; list = refl })
 
   module _ (fit : LimitsFit limits) (e : early ≡ Pass) where
@@ -84,8 +56,9 @@ module _ (limits : Limits) (table store : List ℕ) (early : Early)
         → Lists (listingOutcome limits table store list) a after
     unfolding listingOutcome
     listing-passed list after a lists =
+        let decides = whole-decides limits table store in
         rw (
-          lines-passed (ofWhole limits table store) whole-decides early says e (ofList table list pass),
+          lines-passed (ofWhole limits table store) decides early says e (ofList table list pass),
           ← (slots-of-sound limits table store so .slots),
         )
         lists

@@ -9,7 +9,7 @@ use lib.Seq.{sets}
 use Rattle.types.specs.declared.Limits.{Limits}
 use Rattle.types.specs.Sizes.{tableLength}
 use Rattle.tables.specs.Words.{rootLink, labelsHeld, rowAt}
-use Rattle.tables.specs.Outcomes.{Verdict, pass, ofMemory, ofTable, ofList, Listing, listingBy}
+use Rattle.tables.specs.Outcomes.{pass, ofList, Listing, listingBy}
 use Rattle.words.specs.Limits.{LimitsFit}
 
 -- the slots at a link, at most so many nodes deep; a link above the slots gives none
@@ -27,15 +27,12 @@ slotsFrom limits table (suc remaining) (suc k) =
 abbrev pub slotsListed : Limits → (table : List ℕ) → List ℕ
 slotsListed limits table = slotsFrom limits table (limits .depth) (rootLink table)
 
--- the lines of the table of refusals for calls that test the whole table: lent memory, then soundness
-abbrev pub ofWhole : Limits → (table store : List ℕ) → Verdict → Verdict
-ofWhole limits table store below = ofMemory limits table store (ofTable limits table store below)
-
--- what is listed past them: refused by the list's length, or the slots before the list's later words
+-- what is listed past the tests of a whole table: refused by the list's length, or the slots before the list's later
+-- words
 abbrev pub listingReady : Limits → (table list : List ℕ) → Listing
 listingReady limits table list = listingBy (ofList table list pass) list (slotsListed limits table)
 
--- past them: sizes that fit, and as many slots as labels held
+-- past those tests: sizes that fit, and as many slots as labels held
 pub record ListReady (limits : Limits) (table : List ℕ) : Type 0 where
   pub fit : LimitsFit limits
   pub words : length table ≡ tableLength limits

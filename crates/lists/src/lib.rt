@@ -1,54 +1,13 @@
-// The calls that test soundness: the check, and the ascending listing, which writes the slots of the tree
-// from left to right into a lent list of words.
-use types::DoneAnswer;
+// The ascending listing of a sound table: it writes the slots of the tree from left to right into a lent list of words.
+use lengths::Early;
 use types::Limits;
 use types::ListAnswer;
 use types::Refusal;
-use words::Early;
-ghost use mathlib.Core.Path.{_≡_};
-ghost use Rattle.types.specs.Answers.{doneSays, listSays};
-ghost use Rattle.tables.specs.Sound.{sound};
-ghost use Rattle.tables.specs.Outcomes.{pass, checkOutcome, listingOutcome};
-ghost use Rattle.words.specs.Early.{earlySays};
-ghost use Rattle.words.specs.Limits.{LimitsFit, SizesFit};
+ghost use Rattle.types.specs.Answers.{listSays};
+ghost use Rattle.tables.specs.Outcomes.{listingOutcome};
+ghost use Rattle.words.specs.Limits.{LimitsFit};
 ghost use Rattle.lists.specs.Given.{Lists};
-ghost use Rattle.lists.specs.Listed.{slotsFrom, ofWhole, listingReady, ListFits, ListReady, Filled};
-
-// Whether a table and its store are sound.
-pub fn is_sound(limits: Limits, table: &[u16], store: &[u8]) -> bool
-    requires { ⌜ SizesFit limits (now table) (now store) ⌝ }
-    ensures { λ r. ⌜ r ≡ sound limits (now (table .entry)) (now (store .entry)) ⌝ }
-{
-    checks::sound_within(limits, table, store)
-}
-
-// The refusals of a whole table: by 1 and 2, or by 6 where it is not sound.
-fn whole_table(limits: Limits, table: &[u16], store: &[u8]) -> Early
-    requires { ⌜ LimitsFit limits ⌝ }
-    ensures { λ r. ⌜ earlySays r ≡ ofWhole limits (now (table .entry)) (now (store .entry)) pass ⌝ }
-{
-    let early = words::lengths::of_memory(limits, table, store);
-    let Early::Pass = early else {
-        return early;
-    };
-    if is_sound(limits, table, store) {
-        Early::Pass
-    } else {
-        Early::Refused(Refusal::NotSound)
-    }
-}
-
-// The check: done where the table is sound, else refused by 1, 2 or 6.
-pub fn check_within(limits: Limits, table: &[u16], store: &[u8]) -> DoneAnswer
-    requires { ⌜ LimitsFit limits ⌝ }
-    ensures { λ r. ⌜ doneSays r ≡ checkOutcome limits (now (table .entry)) (now (store .entry)) ⌝ }
-{
-    let early = whole_table(limits, table, store);
-    match early {
-        Early::Refused(refusal) => DoneAnswer::Refused(refusal),
-        Early::Pass => DoneAnswer::Done,
-    }
-}
+ghost use Rattle.lists.specs.Listed.{slotsFrom, listingReady, ListFits, ListReady, Filled};
 
 // Writes the slots at a link, at most `remaining` nodes deep, from a position of the list on, and gives the next one.
 pub fn list_from(
@@ -107,7 +66,7 @@ pub fn listing_within(limits: Limits, table: &[u16], store: &[u8], list: &mut [u
         Lists (listingOutcome limits (now (table .entry)) (now (store .entry)) (now (list .entry)))
         (listSays r) (now (list .exit)) ⌝ }
 {
-    let early = whole_table(limits, table, store);
+    let early = verdicts::whole_table(limits, table, store);
     match early {
         Early::Refused(refusal) => ListAnswer::Refused(refusal),
         Early::Pass => list_ready(limits, table, list),

@@ -1,1 +1,2 @@
 pub mod Recursions
+pub mod Rooting

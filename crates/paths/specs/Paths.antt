@@ -1,16 +1,18 @@
--- Insert and delete along a path of sides from the root, in a table's words.
+-- Insert and delete along a path of sides from the root, and the root set, in a table's words.
 -- A path is a number: its lowest bit is the first side, 1 for right.
 use mathlib.Core.Path.{_≡_}
 use mathlib.Core.List.{List, [], _∷_}
 use mathlib.Core.Bool.{Bool, true, false, cond}
 use Prim.Native.Nat.{ℕ, zero, suc, _+_, _*_, _/_, _%_}
 use lib.Dec.{eqb}
+use lib.ListN.{set}
 use Rattle.trees.specs.Trees.{Side, left, right}
 use Rattle.tables.specs.Words.{rowAt}
 use Rattle.words.specs.Rows.{putRow}
 use Rattle.paths.specs.declared.Popped.{Popped}
 use Rattle.sides.specs.Rows.{rowOn, linkedRow, prefixed}
 use Rattle.turns.specs.Turns.{Turned, Yields, outcome, grow, shrink}
+use Rattle.slots.specs.Slots.{withRootPlace}
 
 abbrev pub bitOf : Side → ℕ
 bitOf left = 0
@@ -72,3 +74,7 @@ deleteAlong zero path height table c place side = cut height table c place side
 deleteAlong (suc length) path height table c place side =
     let deeper = deleteAlong length (path / 2) height table (rowOn (flipOf path) table c .left) place side in
     shrink (flipOf path) (deeper .table) c (deeper .top)
+
+-- the tree's root set, and its place
+unfoldable pub rooted : Turned → List ℕ
+rooted o = withRootPlace (set (o .table) 0 (o .top .link)) 1

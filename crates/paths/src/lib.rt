@@ -1,10 +1,13 @@
 // Insert and delete along a path of sides from the root, by a table's words alone: no label is lent to them.
-// A path is a number: its lowest bit is the first side, 1 for right. Every function takes any table.
+// A path is a number: its lowest bit is the first side, 1 for right. `rooted` sets the root that they leave.
+// Every function takes any table.
 use sides::rows;
 use turns::Rebuilt;
 use turns::rotate;
 ghost use mathlib.Core.Path.{_≡_};
+ghost use lib.ListN.{set};
 ghost use Rattle.turns.specs.Turns.{Yields};
+ghost use Rattle.slots.specs.Slots.{withRootPlace};
 ghost use Rattle.paths.specs.Paths.{flipOf, insertAlong, Pops, popLeast, putLeast, cut, deleteAlong};
 
 // A subtree without its smallest node, and that node's slot.
@@ -122,4 +125,12 @@ pub fn delete_along(
     let row = rows::row_on(table, flip, c);
     let deeper = delete_along(table, length - 1, path / 2, height, row.left, place, side);
     rotate::shrink(table, flip, c, deeper)
+}
+
+// Sets the tree's root, and its place.
+pub fn rooted(table: &mut [u16], top: Rebuilt)
+    ensures { λ _. ⌜ now (table .exit) ≡ withRootPlace (set (now (table .entry)) 0 (top .link)) 1 ⌝ }
+{
+    words::total::set_word(table, 0, top.link);
+    slots::set_root_place(table, 1);
 }

@@ -12,10 +12,10 @@ use Rattle.types.specs.declared.UpdateAnswer.{UpdateAnswer}
 use Rattle.tables.specs.Outcomes.{insertOutcome, deleteOutcome, searchOutcome}
 use Rattle.views.specs.Given.{Gives}
 use Rattle.lines.specs.declared.Command as code
-use Rattle.lines.specs.declared.Said as said
 use Rattle.lines.specs.Commands.{askedBy, asks}
-use Rattle.lines.specs.Texts.{textOf, textSaid}
-use Rattle.lines.specs.Puts.{Puts}
+use Rattle.texts.specs.declared.Said as said
+use Rattle.texts.specs.Texts.{textOf, textSaid}
+use Rattle.texts.specs.Puts.{Puts}
 use Rattle.inputs.specs.Inputs.{replyTo}
 use Rattle.keeps.specs.Held.{Held}
 use Rattle.replies.specs.Replies.{memoryOf, replyOf, Replies}

@@ -4,8 +4,8 @@ use mathlib.Core.List.{List, _++_}
 use Prim.Native.Nat.{ℕ, _+_, _≤_}
 use lib.ListN.{take}
 use Rattle.tables.specs.Written.{Memory}
-use Rattle.lines.specs.declared.Said.{Said}
-use Rattle.lines.specs.Texts.{textSaid}
+use Rattle.texts.specs.declared.Said.{Said}
+use Rattle.texts.specs.Texts.{textSaid}
 use Rattle.inputs.specs.Inputs.{Reply}
 
 abbrev pub memoryOf : (table store : List ℕ) → Memory

@@ -1,7 +1,7 @@
 // What is said to a line: the call that it asks is made, and its answer's line is put into a lent buffer.
 use keeps::Line;
 use lines::Command;
-use lines::Said;
+use texts::Said;
 ghost use mathlib.Core.Path.{_≡_};
 ghost use Prim.Native.Nat.{_+_, _≤_};
 ghost use lib.ListN.{length};
@@ -22,7 +22,7 @@ pub fn reply(table: &mut [u16], store: &mut [u8], line: Line, out: &mut [u8], pl
     let bytes = line.bytes;
     let len = keeps::held(&bytes, line.len);
     let said = ask(table, store, &bytes[..len]);
-    lines::put_said(said, out, place)
+    texts::put_said(said, out, place)
 }
 
 // Does what a line asks.

@@ -13,7 +13,7 @@ use Rattle.trees.specs.Valid.{Valid}
 use Rattle.tables.specs.Written.{writtenTable, writtenStore, written}
 use Rattle.traces.specs.declared.Trace.{Trace}
 use Rattle.slots.specs.Slots.{withoutLabel}
-use Rattle.updates.specs.Deletes.{deletedTable, deletedMemory}
+use Rattle.deletions.specs.Deletions.{deletedTable, deletedMemory}
 use Rattle.rewritten.proofs.Traces.{Way}
 use Rattle.rewritten.proofs.FromRows.{table-from-rows}
 use Rattle.rewritten.proofs.FromParts.{store-from-parts}

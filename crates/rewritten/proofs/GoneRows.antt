@@ -23,7 +23,7 @@ use Rattle.written.proofs.Rows.{mark-of-written, row-of-written}
 use Rattle.written.proofs.Places.{row-elsewhere}
 use Rattle.turns.specs.Turns.{Turned}
 use Rattle.slots.specs.Slots.{afterFreed, withCount}
-use Rattle.updates.specs.Inserts.{rooted}
+use Rattle.paths.specs.Paths.{rooted}
 use Rattle.rewritten.proofs.InRows.{RowsOf, rows-kept}
 use Rattle.rewritten.proofs.Roots.{Placed, root-of-rooted, placed-rooted, header-of-rooted}
 use Rattle.rewritten.proofs.Roots.{link-apart, rows-of-rep}

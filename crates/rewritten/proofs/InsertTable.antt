@@ -29,13 +29,13 @@ use Rattle.tables.specs.Words.{rootLink, rowAt}
 use Rattle.tables.specs.Written.{linkOf, chainRow, writtenTable, writtenStore}
 use Rattle.written.proofs.Rows.{root-of-written}
 use Rattle.turns.specs.Turns.{Turned}
-use Rattle.paths.specs.Paths.{pathOf, insertAlong}
+use Rattle.paths.specs.Paths.{pathOf, insertAlong, rooted}
 use Rattle.rotations.proofs.Rep.{Once, Refines}
 use Rattle.rotations.proofs.Along.{sidesTo}
 use Rattle.rotations.proofs.Inserts.{insert-refines}
 use Rattle.traces.specs.declared.Trace.{Trace}
 use Rattle.slots.specs.Slots.{slotTaken}
-use Rattle.updates.specs.Inserts.{rooted, withLeaf, insertedTable}
+use Rattle.insertions.specs.Insertions.{withLeaf, insertedTable}
 use Rattle.rewritten.proofs.Traces.{Way}
 use Rattle.rewritten.proofs.Roots.{Placed, header-of-rooted, root-of-rooted, placed-rooted}
 use Rattle.rewritten.proofs.Roots.{link-apart, rows-of-rep}

@@ -23,7 +23,7 @@ use Rattle.tables.specs.Written.{writtenTable, writtenStore, written}
 use Rattle.rotations.proofs.Frames.{other-slot}
 use Rattle.traces.specs.declared.Trace.{Trace}
 use Rattle.slots.specs.Slots.{slotTaken, withLabel}
-use Rattle.updates.specs.Inserts.{insertedMemory}
+use Rattle.insertions.specs.Insertions.{insertedMemory}
 use Rattle.rewritten.proofs.Traces.{Way}
 use Rattle.rewritten.proofs.FromRows.{slot-of-valid}
 use Rattle.rewritten.proofs.FromParts.{Each, each-append, each-split, each-map, PartIs, WrittenParts}

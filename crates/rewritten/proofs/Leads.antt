@@ -16,7 +16,7 @@ use Rattle.trees.specs.Trees.{Entry, Side, left, right}
 use Rattle.trees.specs.Searches.{Held, absent, found, Search, visit, searchBy}
 use Rattle.tables.specs.Steps.{Step, Walk, ended, visitThen, walkBy}
 use Rattle.checks.specs.Check.{belowIn, aboveIn}
-use Rattle.search.specs.declared.Spot.{Spot}
+use Rattle.nodes.specs.declared.Spot.{Spot}
 use Rattle.steps.proofs.Window.{Sought}
 use Rattle.steps.proofs.Node.{Goes, goes-left, goes-stop, goes-right}
 use Rattle.paths.specs.Paths.{bitOf, pathOf}

@@ -28,7 +28,7 @@ use Rattle.rotations.proofs.Stays.{frame-of-put}
 use Rattle.rotations.proofs.Along.{lowTo, highTo}
 use Rattle.traces.specs.declared.Trace.{Trace}
 use Rattle.slots.specs.Slots.{slotTaken, afterTaken, withCount, withRootPlace}
-use Rattle.updates.specs.Inserts.{leafFields, leafRow, withLeaf}
+use Rattle.insertions.specs.Insertions.{leafFields, leafRow, withLeaf}
 use Rattle.rewritten.proofs.Traces.{Ends, Way}
 use Rattle.rewritten.proofs.InRows.{RowsOf, rows-kept}
 use Rattle.rewritten.proofs.Roots.{Placed, placed-root, header-of-root, link-apart, rep-of-rows}

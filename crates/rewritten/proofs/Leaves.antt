@@ -19,7 +19,7 @@ use Rattle.steps.proofs.Window.{Sought}
 use Rattle.steps.proofs.Leaf.{place-of-leaf, side-of-leaf}
 use Rattle.rotations.proofs.Rep.{bareWithin, bareRow}
 use Rattle.traces.specs.declared.Trace.{Trace}
-use Rattle.updates.specs.Inserts.{leafFields, leafRow}
+use Rattle.insertions.specs.Insertions.{leafFields, leafRow}
 use Rattle.rewritten.proofs.InRows.{Inner, place-of-inner}
 
 module _ (limits : Limits) (table store : List ℕ) (x : Label) (P S : ℕ) where

@@ -29,7 +29,7 @@ use Rattle.turns.specs.Turns.{Turned}
 use Rattle.rotations.proofs.Rep.{Rep, Once}
 use Rattle.rotations.proofs.Stays.{frame-of-put}
 use Rattle.slots.specs.Slots.{withRootPlace}
-use Rattle.updates.specs.Inserts.{rooted}
+use Rattle.paths.specs.Paths.{rooted}
 use Rattle.rewritten.proofs.InRows.{RowsOf, rows-kept, rep-of-inner, rows-of-inner}
 
 -- The first four words are in no row.

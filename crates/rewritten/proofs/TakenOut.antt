@@ -22,7 +22,7 @@ use Rattle.tables.specs.Written.{linkOf, writtenTable, writtenStore}
 use Rattle.written.proofs.Rows.{root-of-written}
 use Rattle.written.proofs.Held.{height-within}
 use Rattle.turns.specs.Turns.{Turned}
-use Rattle.paths.specs.Paths.{pathOf, deleteAlong}
+use Rattle.paths.specs.Paths.{pathOf, deleteAlong, rooted}
 use Rattle.rotations.proofs.Rep.{Rep, Frame, Refines}
 use Rattle.rotations.proofs.Along.{sidesTo, lowTo, highTo, placeOfNext, sideOfNext, rightOf}
 use Rattle.rotations.proofs.Frames.{frame-then}
@@ -30,8 +30,7 @@ use Rattle.rotations.proofs.Deletes.{delete-refines}
 use Rattle.traces.specs.declared.Trace.{Trace}
 use Rattle.slots.specs.Slots.{withRootPlace, afterFreed, withCount}
 use Rattle.renewals.specs.Renewals.{Renewed, renewedAround}
-use Rattle.updates.specs.Inserts.{rooted}
-use Rattle.updates.specs.Deletes.{deletedTable}
+use Rattle.deletions.specs.Deletions.{deletedTable}
 use Rattle.rewritten.proofs.Traces.{Way}
 use Rattle.rewritten.proofs.FromRows.{once-of-valid}
 use Rattle.rewritten.proofs.Renewing.{below-renewed, above-renewed}

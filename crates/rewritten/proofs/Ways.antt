@@ -20,8 +20,8 @@ use Rattle.tables.specs.Steps.{ended, stepAt, steps, searchSteps}
 use Rattle.tables.specs.Outcomes.{visitsOf, placesOf}
 use Rattle.tables.proofs.Represents.{NodeHeld, Represents}
 use Rattle.checks.specs.Check.{belowIn, aboveIn}
-use Rattle.search.specs.declared.Spot.{Spot}
-use Rattle.search.specs.Walks.{haltsAt, rowStep}
+use Rattle.nodes.specs.declared.Spot.{Spot}
+use Rattle.nodes.specs.Nodes.{haltsAt, rowStep}
 use Rattle.steps.proofs.Window.{Sought, sought-first}
 use Rattle.steps.proofs.Node.{step-goes}
 use Rattle.steps.proofs.Rows.{row-not-bad, steps-at-node}

@@ -22,13 +22,14 @@ use Rattle.trees.specs.Trees.{Entry}
 use Rattle.tables.specs.Words.{rootLink, rowAt, entryAt}
 use Rattle.tables.specs.Steps.{stop, isBad, Walk, broken, ended, visitThen, walkBy, missing, steps, searchSteps}
 use Rattle.tables.specs.Outcomes.{pass, ofMemory, ofLabel, walkAnswer, searchOutcome}
-use Rattle.words.specs.declared.Early.{Early}
-use Rattle.words.specs.declared.Early.the-variants.{Pass, Refused}
-use Rattle.words.specs.Early.{earlySays}
+use Rattle.lengths.specs.declared.Early.{Early}
+use Rattle.lengths.specs.declared.Early.the-variants.{Pass, Refused}
+use Rattle.lengths.specs.Early.{earlySays}
 use Rattle.words.specs.Limits.{LimitsFit}
-use Rattle.words.proofs.FirstLines.{lengths-refused, lengths-passed, lengths-fit}
-use Rattle.search.specs.Walks.{haltsAt, stepBy, rowStep, sonOf, haltedAt, answerAfter, answerFrom}
-use Rattle.search.proofs.Rows.{live}
+use Rattle.lengths.proofs.FirstLines.{lengths-refused, lengths-passed, lengths-fit}
+use Rattle.nodes.specs.Nodes.{haltsAt, stepBy, rowStep, sonOf}
+use Rattle.nodes.proofs.Rows.{live}
+use Rattle.search.specs.Walks.{haltedAt, answerAfter, answerFrom}
 use Rattle.search.proofs.Moves.{Went}
 
 -- with nothing behind it, a walk's answer is its own

@@ -1,4 +1,2 @@
-pub mod Rows
-pub mod Turns
 pub mod Moves
 pub mod Answers

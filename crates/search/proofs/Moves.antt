@@ -17,11 +17,11 @@ use Rattle.orders.specs.declared.Order.the-variants.{Smaller, Same, Larger}
 use Rattle.compares.specs.Compares.{comparisonOf}
 use Rattle.tables.specs.Words.{labelAt}
 use Rattle.tables.specs.Steps.{Step, stop, compareStep}
-use Rattle.search.specs.declared.Turn.{Turn}
-use Rattle.search.specs.declared.Turn.the-variants.{Left, Right, Compare}
-use Rattle.search.specs.Walks.{reachedOn, turnOf, stepBy, rowStep}
-use Rattle.search.specs.Bounds.{AtPlace, AtRow}
-use Rattle.search.proofs.Turns.{decide-smaller, decide-same, decide-larger, row-left, row-right, row-compared}
+use Rattle.nodes.specs.declared.Turn.{Turn}
+use Rattle.nodes.specs.declared.Turn.the-variants.{Left, Right, Compare}
+use Rattle.nodes.specs.Nodes.{reachedOn, turnOf, stepBy, rowStep}
+use Rattle.nodes.specs.Bounds.{AtPlace, AtRow}
+use Rattle.nodes.proofs.Turns.{decide-smaller, decide-same, decide-larger, row-left, row-right, row-compared}
 
 -- the array holds the number that a side goes by at the side's index
 reached-at : (side : ℕ) (ends : List ℕ) → side ≤ 1 → getD ends side 0 ≡ reachedOn side (getD ends 0 0) (getD ends 1 0)

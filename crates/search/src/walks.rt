@@ -1,44 +1,16 @@
 // The walk from the root, and the search with its refusals.
-use crate::Spot;
-use crate::Step;
-use crate::Turn;
-use crate::nodes;
+use lengths::Early;
+use nodes::Turn;
 use orders::Order;
 use types::Limits;
 use types::Refusal;
-use types::Row;
 use types::SearchAnswer;
-use words::Early;
 ghost use mathlib.Core.Path.{_≡_};
 ghost use Rattle.types.specs.Answers.{searchSays};
 ghost use Rattle.tables.specs.Steps.{steps};
 ghost use Rattle.tables.specs.Outcomes.{walkAnswer, searchOutcome};
 ghost use Rattle.words.specs.Limits.{LimitsFit, SizesFit};
-ghost use Rattle.search.specs.Walks.{sonOf, spotAfter, haltedAt};
-ghost use Rattle.search.specs.Bounds.{CanStep, Onward};
-
-// The link to a son.
-fn son(row: Row, right: bool) -> u16
-    ensures { λ r. ⌜ r ≡ sonOf row right ⌝ }
-{
-    if right { row.right } else { row.left }
-}
-
-// Where the walk stands after the step at a node with this row.
-pub fn after(spot: Spot, row: Row, step: Step) -> Spot
-    requires { ⌜ CanStep spot step ⌝ }
-    ensures { λ r. ⌜ r ≡ spotAfter spot row step ⌝ }
-    ensures { λ r. ⌜ Onward spot r ⌝ }
-{
-    let link = son(row, step.right) as usize;
-    Spot {
-        link,
-        p: step.p,
-        s: step.s,
-        visits: spot.visits + 1,
-        places: spot.places + step.examined,
-    }
-}
+ghost use Rattle.search.specs.Walks.{haltedAt};
 
 // The answer where no node is visited: absent at an empty link, and else refused.
 fn halted(link: usize, visits: usize, places: usize) -> SearchAnswer
@@ -69,7 +41,7 @@ fn walk(limits: Limits, table: &[u16], store: &[u8], label: &[u8], root: usize) 
         let row = words::read_row(table, link);
         let side = row.side as usize;
         let d = row.place as usize;
-        let turn = nodes::turn(side, d, ends[side]);
+        let turn = nodes::turning::turn(side, d, ends[side]);
         let right = match turn {
             Turn::Left => false,
             Turn::Right => true,
@@ -98,7 +70,7 @@ fn walk(limits: Limits, table: &[u16], store: &[u8], label: &[u8], root: usize) 
                 }
             }
         };
-        link = son(row, right) as usize;
+        link = nodes::son(row, right) as usize;
         remaining -= 1;
     }
 }
@@ -110,7 +82,7 @@ pub fn search_within(limits: Limits, table: &[u16], store: &[u8], label: &[u8]) 
     ensures { λ r. ⌜
         searchSays r ≡ searchOutcome limits (now (table .entry)) (now (store .entry)) (now (label .entry)) ⌝ }
 {
-    let early = words::lengths::with_label(limits, table, store, label);
+    let early = lengths::with_label(limits, table, store, label);
     match early {
         Early::Refused(refusal) => SearchAnswer::Refused(refusal),
         Early::Pass => walk(limits, table, store, label, table[0] as usize),

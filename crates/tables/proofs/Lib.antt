@@ -1,4 +1,3 @@
-pub mod Cases
 pub mod Represents
 pub mod Reading
 pub mod Clauses

@@ -2,7 +2,7 @@
 -- kept, renewed: below a node the window on one side is kept, on the other it is the node's label.
 -- windows-are-neighbours: the claim.
 use mathlib.Core.List.{List, [], _∷_}
-use mathlib.Core.Bool.{Bool, true, false}
+use mathlib.Core.Bool.{true, false}
 use mathlib.Core.Path.{_≡_, refl, sym}
 use Prim.Native.Nat.{ℕ}
 use Rattle.types.specs.declared.Row.{Row}

@@ -156,8 +156,8 @@ pub record SearchAgrees (limits : Limits) (x : Label) (m : Memory) (t : Tree) : 
   -- places at most the sought label's length plus the visits
   pub short : placesOf (searchSteps limits (m .table) (m .store) x) ≤ length x + length (fullSearch x t .visited)
 
--- "a search finds exactly the labels it holds, with its values": where a node of the plain tree has the label, the
--- search is answered found with that node's slot and value; and it is answered found nowhere else
+-- "Search: found with the node's slot and value, or absent": where a node of the plain tree has the label, the search
+-- is answered found with that node's slot and value; and it is answered found nowhere else
 pub record FindsHeld (limits : Limits) (x : Label) (m : Memory) (t : Tree) : Type 0 where
   pub held :
       (e : Entry) → NodeOf e t → e .label ≡ x

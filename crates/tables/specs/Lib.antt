@@ -6,4 +6,3 @@ pub mod Sound
 pub mod Paths
 pub mod Outcomes
 pub mod Claims
-pub mod Cases

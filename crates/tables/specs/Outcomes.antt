@@ -1,6 +1,6 @@
 -- What each public call answers and leaves, on lent memory of any length and content ('Updates' and 'Where each call
 -- turns away' of document 01).
-use mathlib.Core.List.{List, [], _∷_, _++_}
+use mathlib.Core.List.{List, [], _++_}
 use mathlib.Core.Bool.{Bool, true, false, not, _||_}
 use Prim.Native.Nat.{ℕ, _+_}
 use lib.Dec.{eqb, ltb}

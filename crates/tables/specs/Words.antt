@@ -1,5 +1,5 @@
 -- 'Words and bytes lent' of document 01: where the words of a table and the bytes of a store stand.
-use mathlib.Core.List.{List, [], _∷_}
+use mathlib.Core.List.{List}
 use Prim.Native.Nat.{ℕ, _+_, _-_, _*_}
 use lib.ListN.{getD, take, drop}
 use Rattle.types.specs.declared.Limits.{Limits}

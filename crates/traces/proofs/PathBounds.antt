@@ -12,9 +12,9 @@ use Rattle.types.specs.declared.Row.{Row}
 use Rattle.labels.specs.Labels.{Label}
 use Rattle.tables.specs.Words.{rowAt}
 use Rattle.tables.specs.Steps.{Step, go-left, go-right, stop}
-use Rattle.search.specs.declared.Spot.{Spot}
-use Rattle.search.specs.Walks.{nodeStep}
-use Rattle.search.specs.Bounds.{Onward}
+use Rattle.nodes.specs.declared.Spot.{Spot}
+use Rattle.nodes.specs.Nodes.{nodeStep}
+use Rattle.nodes.specs.Bounds.{Onward}
 use Rattle.traces.specs.declared.Trace.{Trace}
 use Rattle.traces.specs.Traces.{spotAt, endedAt, foundAt, longer, traceBy, traceFrom, traceOn}
 use Rattle.traces.specs.Traces.{CanTrace, CanLengthen, PathFits}

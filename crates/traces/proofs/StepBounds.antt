@@ -10,9 +10,9 @@ use Rattle.labels.specs.Labels.{Label, Comparison, smaller, same, larger, compa
 use Rattle.labels.proofs.Ends.{ends-from}
 use Rattle.tables.specs.Words.{rowAt, labelAt, partStart}
 use Rattle.tables.specs.Steps.{Step, go-left, go-right, stop, compareStep, predecessorStep, successorStep, stepAt}
-use Rattle.search.specs.declared.Spot.{Spot}
-use Rattle.search.specs.Walks.{rowStep, nodeStep}
-use Rattle.search.specs.Bounds.{GoodRow}
+use Rattle.nodes.specs.declared.Spot.{Spot}
+use Rattle.nodes.specs.Nodes.{rowStep, nodeStep}
+use Rattle.nodes.specs.Bounds.{GoodRow}
 
 -- a step after which P and S are at most m, and which examined at most m places
 pub data StepWithin (m : ℕ) : Step → Type 0 where

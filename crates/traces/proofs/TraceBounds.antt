@@ -11,9 +11,9 @@ use Rattle.labels.specs.Labels.{Label}
 use Rattle.tables.specs.Words.{rowAt}
 use Rattle.tables.specs.Steps.{Step}
 use Rattle.words.specs.Limits.{LimitsFit, SizesFit}
-use Rattle.search.specs.declared.Spot.{Spot}
-use Rattle.search.specs.Bounds.{Live}
-use Rattle.search.proofs.Rows.{live}
+use Rattle.nodes.specs.declared.Spot.{Spot}
+use Rattle.nodes.specs.Bounds.{Live}
+use Rattle.nodes.proofs.Rows.{live}
 use Rattle.traces.specs.declared.Trace.{Trace}
 use Rattle.traces.specs.Traces.{rootSpot, spotAt, endedAt, longer, traceBy, traceFrom, traceOn, traced}
 use Rattle.traces.specs.Traces.{Passed, NumbersFit, TraceFits}

@@ -7,9 +7,9 @@ use native.Mathlib.Omega.{arith}
 use mir.Syntax.{w16}
 use mir.Val.{Fits}
 use Rattle.types.specs.declared.Limits.{Limits}
-use Rattle.search.specs.declared.Spot.{Spot}
-use Rattle.search.specs.declared.Step.{Step}
-use Rattle.search.specs.Bounds.{Live, CanStep, Onward}
+use Rattle.nodes.specs.declared.Spot.{Spot}
+use Rattle.nodes.specs.declared.Step.{Step}
+use Rattle.nodes.specs.Bounds.{Live, CanStep, Onward}
 use Rattle.traces.specs.Traces.{CanTrace, CanEnd}
 
 module _ (limits : Limits) (table store : List ℕ) (w : Spot)

@@ -12,10 +12,10 @@ use Rattle.types.specs.declared.Limits.{Limits}
 use Rattle.types.specs.declared.Row.{Row}
 use Rattle.labels.specs.Labels.{Label}
 use Rattle.tables.specs.Words.{rowAt}
-use Rattle.search.specs.declared.Spot.{Spot}
-use Rattle.search.specs.declared.Step.{Step}
-use Rattle.search.specs.Walks.{haltsAt, rowStep, nodeStep, stepOf, sonOf, spotAfter}
-use Rattle.search.proofs.Rows.{live}
+use Rattle.nodes.specs.declared.Spot.{Spot}
+use Rattle.nodes.specs.declared.Step.{Step}
+use Rattle.nodes.specs.Nodes.{haltsAt, rowStep, nodeStep, stepOf, sonOf, spotAfter}
+use Rattle.nodes.proofs.Rows.{live}
 use Rattle.traces.specs.declared.Trace.{Trace}
 use Rattle.traces.specs.Traces.{endedAt, foundAt, longer, traceBy, traceFrom, traceOn}
 

@@ -8,8 +8,8 @@ use Rattle.labels.specs.Labels.{Label}
 use Rattle.tables.specs.Words.{rootLink, rowAt}
 use Rattle.tables.specs.Steps.{Step, go-left, go-right, stop}
 use Rattle.words.specs.Limits.{SizesFit}
-use Rattle.search.specs.declared.Spot.{Spot}
-use Rattle.search.specs.Walks.{haltsAt, nodeStep}
+use Rattle.nodes.specs.declared.Spot.{Spot}
+use Rattle.nodes.specs.Nodes.{haltsAt, nodeStep}
 use Rattle.traces.specs.declared.Trace.{Trace}
 
 -- the search starts at the root, with P and S at 1

@@ -1,8 +1,6 @@
 // The search of an update: once, with the way it went kept. Nothing is changed.
 use crate::Trace;
-use search::Spot;
-use search::nodes;
-use search::walks;
+use nodes::Spot;
 use types::Limits;
 ghost use mathlib.Core.Path.{_≡_};
 ghost use Rattle.words.specs.Limits.{SizesFit};
@@ -85,7 +83,7 @@ fn trace_from(
         return found(spot, step.examined, below, above);
     }
     let slot = spot.link as u16;
-    let next = walks::after(spot, row, step);
+    let next = nodes::after(spot, row, step);
     if step.right {
         let deeper = trace_from(limits, table, store, label, next, slot, above);
         return longer(1, deeper);

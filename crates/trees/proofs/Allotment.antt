@@ -9,7 +9,7 @@ use lib.Dec.{eqb}
 use lib.ListN.{length, length-append}
 use borrow.Author.Tests.{eq-eqb, ne-eqb}
 use Rattle.labels.specs.Labels.{Label}
-use Rattle.trees.specs.Trees.{Entry, Tree, node, slots}
+use Rattle.trees.specs.Trees.{Entry, Tree, slots}
 use Rattle.trees.specs.Searches.{absent, found, fullSearch}
 use Rattle.trees.specs.Updates.{inserted, deleted}
 use Rattle.trees.specs.Valid.{oneIf, occurrences}

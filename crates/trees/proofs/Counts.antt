@@ -6,7 +6,7 @@
 -- occurs-inside, occurs-at-most-once: what occurs is one of 1 to high, and occurs once.
 -- occurs-in-one-part: what occurs in one part of the list does not occur in the other.
 use mathlib.Core.List.{List, [], _∷_, _++_, List·Memᴰ, List·Memᴰ·head, List·Memᴰ·tail}
-use mathlib.Core.Path.{_≡_, refl, sym, ap, _∙_}
+use mathlib.Core.Path.{_≡_, refl, ap}
 use mathlib.Core.Bool.{Bool, true, false}
 use Prim.Native.Nat.{ℕ, zero, suc, _+_, _≤_}
 use native.Mathlib.Omega.{arith}

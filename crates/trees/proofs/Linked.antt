@@ -7,7 +7,6 @@
 use mathlib.Core.List.{List, [], _∷_, _++_}
 use mathlib.Core.Path.{_≡_, refl}
 use mathlib.Core.Bool.{true, false}
-use Prim.Native.Nat.{ℕ}
 use Rattle.labels.specs.Labels.{Label, Comparison, compareLabels, Finds, is-smaller, is-same, is-larger}
 use Rattle.labels.specs.Neighbours.{Neighbour, none-below, held, none-above}
 use Rattle.labels.proofs.Order.{below-of-smaller, none-below-held, held-none-above, none-below-none-above}

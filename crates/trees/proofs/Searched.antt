@@ -4,7 +4,6 @@
 -- node-between: a node of an ordered tree lies within the tree's window.
 -- node-found: a search of an ordered tree for the label of one of its nodes finds that node.
 use mathlib.Core.Path.{_≡_, refl, ap, _∙_}
-use Prim.Native.Nat.{ℕ}
 use Rattle.labels.specs.Labels.{Label, Comparison, smaller, same, larger, compareLabels}
 use Rattle.labels.specs.Labels.{Finds, is-smaller, is-same, is-larger}
 use Rattle.labels.specs.Neighbours.{Neighbour, held}

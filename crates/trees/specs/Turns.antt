@@ -1,6 +1,6 @@
 -- Rotations ('Updates' of document 01), each written once for both sides.
 use mathlib.Core.Bool.{Bool, true, false}
-use Prim.Native.Nat.{ℕ, suc}
+use Prim.Native.Nat.{suc}
 use lib.Dec.{ltb}
 use Rattle.trees.specs.Trees.{Entry, Tree, empty, node, Side, left, right, other, from, on}
 use Rattle.trees.specs.Heights.{height}

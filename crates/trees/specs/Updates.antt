@@ -1,6 +1,5 @@
 -- Insert and delete on the plain tree ('Updates' of document 01): a node is hung or taken out, then nodes are turned
 -- "from the lowest changed node to the root".
-use mathlib.Core.List.{List}
 use Rattle.labels.specs.Labels.{Label, Comparison, smaller, same, larger, compareLabels}
 use Rattle.trees.specs.Trees.{Entry, Tree, empty, node}
 use Rattle.trees.specs.Turns.{rebalanced}

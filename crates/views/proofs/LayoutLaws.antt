@@ -8,10 +8,10 @@ use Rattle.types.specs.declared.Limits.{Limits}
 use Rattle.types.specs.declared.Refusal.{Refusal}
 use Rattle.types.specs.Answers.{done, refused, refusalNumber}
 use Rattle.tables.specs.Outcomes.{pass, ofMemory, layoutOutcome}
-use Rattle.words.specs.declared.Early.{Early}
-use Rattle.words.specs.declared.Early.the-variants.{Pass, Refused}
-use Rattle.words.specs.Early.{earlySays}
-use Rattle.words.proofs.FirstLines.{memory-refused, memory-passed}
+use Rattle.lengths.specs.declared.Early.{Early}
+use Rattle.lengths.specs.declared.Early.the-variants.{Pass, Refused}
+use Rattle.lengths.specs.Early.{earlySays}
+use Rattle.lengths.proofs.FirstLines.{memory-refused, memory-passed}
 use Rattle.views.specs.Given.{Gives}
 
 module _ (limits : Limits) (table store : List ℕ) (early : Early)

@@ -22,16 +22,17 @@ use Rattle.types.specs.Sizes.{tableLength}
 use Rattle.types.specs.Answers.{Answer, done, refused, refusalNumber, doneSays}
 use Rattle.tables.specs.Words.{rowAt, labelAt, partStart}
 use Rattle.tables.specs.Outcomes.{pass, answerBy, ofMemory, ofSlot, viewVerdict, viewOutcome, viewPart}
-use Rattle.words.specs.declared.Early.{Early}
-use Rattle.words.specs.declared.Early.the-variants.{Pass, Refused}
-use Rattle.words.specs.Early.{earlySays}
 use Rattle.words.specs.Limits.{LimitsFit}
 use Rattle.words.specs.Rows.{HasRow}
 use Rattle.words.specs.Parts.{StartFits, LabelInside, Shows}
+use Rattle.lengths.specs.declared.Early.{Early}
+use Rattle.lengths.specs.declared.Early.the-variants.{Pass, Refused}
+use Rattle.lengths.specs.Early.{earlySays}
 use Rattle.views.specs.Parts.{viewStart, Views}
 use Rattle.tables.proofs.Offsets.{part-within}
 use Rattle.words.proofs.PartLaws.{start-small}
-use Rattle.words.proofs.FirstLines.{either-false, line-passed, memory-refused, memory-passed, sizes-passed, sizes-fit}
+use Rattle.trees.proofs.Views.{either-false}
+use Rattle.lengths.proofs.FirstLines.{line-passed, memory-refused, memory-passed, sizes-passed, sizes-fit}
 use Rattle.labels.proofs.Branches.{branches}
 use Rattle.views.proofs.Verdicts.{done-passed, part-passed, part-refused}
 

@@ -1,7 +1,7 @@
 // Layout: every word and byte is set to 0.
+use lengths::Early;
 use types::DoneAnswer;
 use types::Limits;
-use words::Early;
 ghost use mathlib.Core.Path.{_≡_};
 ghost use lib.ListN.{length, replicate};
 ghost use Rattle.types.specs.Answers.{doneSays};
@@ -38,7 +38,7 @@ pub fn layout_within(limits: Limits, table: &mut [u16], store: &mut [u8]) -> Don
         Gives (layoutOutcome limits (now (table .entry)) (now (store .entry)))
         (doneSays r) (now (table .exit)) (now (store .exit)) ⌝ }
 {
-    let early = words::lengths::of_memory(limits, table, store);
+    let early = lengths::of_memory(limits, table, store);
     match early {
         Early::Refused(refusal) => DoneAnswer::Refused(refusal),
         Early::Pass => {

@@ -2,10 +2,10 @@
 // the other the part of the store. Layout has a module of its own.
 pub mod layouts;
 
+use lengths::Early;
 use types::DoneAnswer;
 use types::Limits;
 use types::Refusal;
-use words::Early;
 ghost use mathlib.Core.Path.{_≡_};
 ghost use lib.ListN.{length};
 ghost use Rattle.types.specs.Sizes.{tableLength};
@@ -40,7 +40,7 @@ pub fn view_check_within(limits: Limits, table: &[u16], store: &[u8], slot: usiz
     requires { ⌜ LimitsFit limits ⌝ }
     ensures { λ r. ⌜ doneSays r ≡ viewOutcome limits (now (table .entry)) (now (store .entry)) slot ⌝ }
 {
-    let early = words::lengths::of_memory(limits, table, store);
+    let early = lengths::of_memory(limits, table, store);
     match early {
         Early::Refused(refusal) => DoneAnswer::Refused(refusal),
         Early::Pass => slot_check(limits, table, slot),

@@ -1,20 +1,12 @@
-// The lent memory: the lengths that every call tests first, the rows of a table (the eight words of a slot, read and
-// written as one value), and the parts of a store. Slots are counted from 1.
-pub mod lengths;
+// The lent memory: the rows of a table (the eight words of a slot, read and written as one value), and the parts of a
+// store. Slots are counted from 1.
 pub mod parts;
 pub mod total;
 
-use types::Refusal;
 use types::Row;
 ghost use mathlib.Core.Path.{_≡_};
 ghost use Rattle.tables.specs.Words.{rowAt};
 ghost use Rattle.words.specs.Rows.{putRow, HasRow};
-
-// What the first tests of a call say: none refuses it, or the first that does.
-pub enum Early {
-    Pass,
-    Refused(Refusal),
-}
 
 // The row of a slot.
 pub fn read_row(table: &[u16], slot: usize) -> Row

@@ -2,7 +2,7 @@
 -- `read-represented`: a represented tree is read back from its link. `read-placed`: so is a chain of freed slots.
 -- `read-of-written`, `chain-of-written`: the tree and the freed slots of a valid state written out.
 -- `state-of-written`: the state is read back. `size-within`: a valid state has at most as many nodes as slots.
-use mathlib.Core.List.{List, [], _∷_, _++_}
+use mathlib.Core.List.{List, [], _∷_}
 use mathlib.Core.Path.{_≡_, refl}
 use Prim.Native.Nat.{ℕ, zero, suc, _+_, _≤_}
 use native.Mathlib.Omega.{arith}

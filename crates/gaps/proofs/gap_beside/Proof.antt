@@ -1,6 +1,5 @@
 -- `gap_beside` meets its contract: the slot is 0, or the label in it is compared.
 use Rattle.gaps.proofs.GapLaws.{beside-row, beside-inside, shown-label, beside-none, beside-starts, beside-some}
-use borrow.Author.Needs.{needs}
 use Rattle.gaps.proofs.gap_beside.Statement.{statement}
 use Rattle.gaps.proofs.gap_beside.Tie as tie
 

@@ -1,6 +1,6 @@
 -- `search::walks::search_within` meets its contract: refused by its first tests, or else the walk from the root.
 use native.Mathlib.Omega.{arith}
-use Rattle.words.proofs.FirstLines.{lengths-fit}
+use Rattle.lengths.proofs.FirstLines.{lengths-fit}
 use Rattle.search.proofs.Answers.{outcome-refused, outcome-walked, root-there}
 use borrow.Author.Needs.{needs}
 use Rattle.search.proofs.walks.search_within.Statement.{statement}

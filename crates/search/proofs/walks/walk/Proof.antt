@@ -7,8 +7,8 @@ use native.Mathlib.Omega.{arith}
 use borrow.Author.Needs.{needs}
 use Rattle.tables.specs.Steps.{steps}
 use Rattle.tables.specs.Outcomes.{walkAnswer}
-use Rattle.search.specs.Bounds.{AtRow, Live}
-use Rattle.search.proofs.Rows.{live, live-row, live-side, live-slot}
+use Rattle.nodes.specs.Bounds.{AtRow, Live}
+use Rattle.nodes.proofs.Rows.{live, live-row, live-side, live-slot}
 use Rattle.search.proofs.Moves.{Went, went-as, went-left, went-right, went-smaller, went-larger, ended-same}
 use Rattle.search.proofs.Answers.{Reached, reached-root, reached-son, walk-halted, walk-found}
 use Rattle.search.proofs.walks.walk.Statement.{statement}

@@ -5,8 +5,8 @@ use native.Mathlib.Omega.{arith}
 use borrow.Author.Needs.{needs}
 use borrow.Fn.Kinds.{In}
 use borrow.Fn.PlainCycle.{Measures, is, falls, and}
-use Rattle.search.specs.Bounds.{Live}
-use Rattle.search.proofs.Rows.{live, live-row, live-slot}
+use Rattle.nodes.specs.Bounds.{Live}
+use Rattle.nodes.proofs.Rows.{live, live-row, live-slot}
 use Rattle.traces.specs.Traces.{CanTrace}
 use Rattle.traces.proofs.TraceSteps.{trace-halted, trace-found, trace-right, trace-left}
 use Rattle.traces.proofs.PathBounds.{can-lengthen}
@@ -15,9 +15,9 @@ use Rattle.traces.proofs.tracing.trace_from.Reads as own
 use Rattle.traces.proofs.tracing.trace_from.Kinds as kinds
 use Rattle.traces.proofs.tracing.+trace_from.Lts-trace_from as lts
 use Rattle.words.proofs.read_row.Reads as read-row-reads
-use Rattle.search.proofs.nodes.halts.Reads as halts-reads
-use Rattle.search.proofs.nodes.visit.Reads as visit-reads
-use Rattle.search.proofs.walks.after.Reads as after-reads
+use Rattle.nodes.proofs.halts.Reads as halts-reads
+use Rattle.nodes.proofs.visit.Reads as visit-reads
+use Rattle.nodes.proofs.after.Reads as after-reads
 use Rattle.traces.proofs.tracing.ended.Reads as ended-reads
 use Rattle.traces.proofs.tracing.found.Reads as found-reads
 use Rattle.traces.proofs.tracing.longer.Reads as longer-reads

@@ -1,0 +1,146 @@
+-- The step at one node, by its turn.
+-- `decide-smaller`, `decide-same`, `decide-larger`: the step after a comparison, by its order.
+-- `compared-row`, `row-inside`: the bytes compared are the label of the slot, which lies within the store.
+-- `turn-level`: the turn where the walk has reached the node's place.
+-- `row-left`, `row-right`, `row-compared`: the step at the node, by its turn.  `after-step`: the spot after it.
+use mathlib.Core.Path.{_≡_, refl, _∙_}
+use mathlib.Core.List.{List}
+use mathlib.Core.Bool.{Bool, true, false, cond}
+use Prim.Native.Nat.{ℕ, zero, suc, _+_, _-_, _≤_, compare, Ordering, Ordering·lt, Ordering·eq, Ordering·gt}
+use Prim.Native.Nat.{compare·suc-zero}
+use native.Mathlib.Numerals.{add-one}
+use native.Mathlib.Omega.{arith}
+use lib.Dec.{eqb}
+use denote.Ref.{RefT}
+use borrow.Author.Tests.{lt-ltb, le-ltb}
+use Rattle.types.specs.declared.Limits.{Limits}
+use Rattle.types.specs.declared.Row.{Row}
+use Rattle.labels.specs.Labels.{Label, compareFrom}
+use Rattle.labels.proofs.Numbers.{Ordered, is-lt, is-eq, is-gt, ordered}
+use Rattle.compares.specs.declared.Compared.{Compared}
+use Rattle.orders.specs.declared.Order.the-variants.{Smaller, Same, Larger}
+use Rattle.compares.specs.Compares.{comparisonOf}
+use Rattle.tables.specs.Words.{labelAt}
+use Rattle.tables.specs.Steps.{Step, go-left, go-right, stop, compareStep, predecessorStep, successorStep, stepAt}
+use Rattle.nodes.specs.declared.Spot.{Spot}
+use Rattle.nodes.specs.declared.Step as code
+use Rattle.nodes.specs.declared.Turn.{Turn}
+use Rattle.nodes.specs.declared.Turn.the-variants.{Left, Right, Compare}
+use Rattle.tables.proofs.Offsets.{part-within}
+use Rattle.words.specs.Parts.{LabelInside, Shows}
+use Rattle.nodes.specs.Bounds.{AtRow}
+use Rattle.nodes.specs.Nodes.{reachedOn, turnBy, turnOf, rowStep, sonOf, spotAfter}
+
+-- the step after a comparison c that started at place d, by its order
+module _ (p s d : ℕ) (c : Compared) where
+  abbrev examined : ℕ
+  examined = c .place + 1 - d
+
+  pub decide-smaller : c .order ≡ Smaller → go-left p (c .place) examined ≡ compareStep (comparisonOf c) d p s
+  decide-smaller e = rw (e, add-one (c .place))
+
+  pub decide-same : c .order ≡ Same → stop examined ≡ compareStep (comparisonOf c) d p s
+  decide-same e = rw (e, add-one (c .place))
+
+  pub decide-larger : c .order ≡ Larger → go-right (c .place) s examined ≡ compareStep (comparisonOf c) d p s
+  decide-larger e = rw (e, add-one (c .place))
+
+-- a comparison with what the store shows is one with the slot's label
+pub compared-row : (limits : Limits) (store held : RefT (List ℕ)) (x : Label) (link : ℕ) (row : Row) (c : Compared)
+    → Shows limits store link (row .len) held → comparisonOf c ≡ compareFrom (row .place) x (held .now)
+    → comparisonOf c ≡ compareFrom (row .place) x (labelAt limits (store .now) link (row .len))
+compared-row limits store held x link row c shows found = rw (shows .bytes) at found
+
+-- such a label lies within the store
+pub row-inside : (limits : Limits) (store : List ℕ) (link : ℕ) (row : Row) → AtRow limits store link row
+    → LabelInside limits store link (row .len)
+row-inside limits store link row at =
+    let low = at .slot .low in
+    let within = part-within (limits .width) (limits .slots) link low (at .slot .high) in
+    let short = at .good .short in
+    let bytes = at .bytes in
+    record { low = low; inside = omega arith }
+
+-- the turn by the order of P or S and the place
+abbrev turnOn : Ordering → Turn → Turn → Turn
+turnOn Ordering·lt below above = below
+turnOn Ordering·eq below above = Compare
+turnOn Ordering·gt below above = above
+
+-- the two tests find that order
+turn-by : {m d : ℕ} {o : Ordering} (below above : Turn) → Ordered m d o → turnBy m d below above ≡ turnOn o below above
+turn-by {m} {d} below above (is-lt less) = rw (lt-ltb m d less)
+turn-by {m} {d} below above (is-eq equal) =
+    let low : d ≤ m = omega arith in
+    let high : m ≤ d = omega arith in
+    rw (le-ltb m d low, le-ltb d m high)
+turn-by {m} {d} below above (is-gt more) = let low : d ≤ m = omega arith in rw (le-ltb m d low, lt-ltb d m more)
+
+-- where the walk has reached the place, either side compares
+pub turn-level : (side d reached : ℕ) → d ≤ reached → reached ≤ d → Compare ≡ turnOf side d reached
+unfolding turnOf
+turn-level side d reached low high = rw (le-ltb _ _ low, le-ltb _ _ high) (either (eqb side 0))
+  where
+    either : (b : Bool) → Compare ≡ cond b Compare Compare
+    either true = refl
+    either false = refl
+
+-- a turn, taken
+abbrev takenBy : Turn → Step → (p s : ℕ) → Step
+takenBy Left compared p s = go-left p s 0
+takenBy Right compared p s = go-right p s 0
+takenBy Compare compared p s = compared
+
+predecessor-turn : (o : Ordering) (compared : Step) (p s : ℕ)
+    → predecessorStep o compared p s ≡ takenBy (turnOn o Right Left) compared p s
+predecessor-turn Ordering·lt compared p s = refl
+predecessor-turn Ordering·eq compared p s = refl
+predecessor-turn Ordering·gt compared p s = refl
+
+successor-turn : (o : Ordering) (compared : Step) (p s : ℕ)
+    → successorStep o compared p s ≡ takenBy (turnOn o Left Right) compared p s
+successor-turn Ordering·lt compared p s = refl
+successor-turn Ordering·eq compared p s = refl
+successor-turn Ordering·gt compared p s = refl
+
+-- a node's step is its turn, taken
+turn-step : (x c : Label) (side d p s : ℕ)
+    → stepAt x c side d p s
+    ≡ takenBy (turnOf side d (reachedOn side p s)) (compareStep (compareFrom d x c) d p s) p s
+unfolding turnOf
+turn-step x c zero d p s =
+    rw (turn-by {m = p} {d = d} Right Left (ordered p d))
+    (predecessor-turn (compare p d) (compareStep (compareFrom d x c) d p s) p s)
+turn-step x c (suc side) d p s =
+    rw (compare·suc-zero, turn-by {m = s} {d = d} Left Right (ordered s d))
+    (successor-turn (compare s d) (compareStep (compareFrom d x c) d p s) p s)
+
+-- the step at the node in a slot, whose row is read and whose turn is t
+module _ (limits : Limits) (store : List ℕ) (x : Label) (link : ℕ) (row : Row) (p s reached : ℕ) (t : Turn)
+    (goes : reached ≡ reachedOn (row .side) p s) (turns : t ≡ turnOf (row .side) (row .place) reached) where
+  abbrev here : Step
+  here = rowStep limits store x link row p s
+
+  abbrev label : Label
+  label = labelAt limits store link (row .len)
+
+  -- it is the turn, taken
+  row-step : takenBy t (compareStep (compareFrom (row .place) x label) (row .place) p s) p s ≡ here
+  unfolding rowStep
+  row-step = rw (turn-step, ← goes, ← turns)
+
+  pub row-left : t ≡ Left → go-left p s 0 ≡ here
+  row-left e = rw e at row-step
+
+  pub row-right : t ≡ Right → go-right p s 0 ≡ here
+  row-right e = rw e at row-step
+
+  pub row-compared : (c : Compared) (r : Step) → t ≡ Compare → comparisonOf c ≡ compareFrom (row .place) x label
+      → r ≡ compareStep (comparisonOf c) (row .place) p s → r ≡ here
+  row-compared c r e found so = so ∙ rw found (rw e at row-step)
+
+-- the spot after a step into the son at the link next
+pub after-step : (w : Spot) (row : Row) (t : code.Step) (next : ℕ) → next ≡ sonOf row (t .right)
+    → record { link = next; p = t .p; s = t .s; visits = w .visits + 1; places = w .places + t .examined }
+    ≡ spotAfter w row t
+after-step w row t next e = rw e

@@ -1,0 +1,58 @@
+-- `nodes::visit` meets its contract: each turn is taken.
+use borrow.Author.Needs.{needs}
+use Rattle.nodes.proofs.Turns.{row-left, row-right, row-compared}
+use Rattle.nodes.proofs.visit.Statement.{statement}
+use Rattle.nodes.proofs.visit.Tie as tie
+
+cast-d : tie.Need-cast-d
+cast-d c = search needs
+
+cast-turn : tie.Need-cast-turn
+cast-turn c = search needs
+
+reached-requires : tie.Need-reached-requires
+reached-requires c κs = search needs
+
+turn-requires : tie.Need-turn-requires
+turn-requires c κs = search needs
+
+enum-told : tie.Need-enum-told
+enum-told c = search needs
+
+enum-told-2 : tie.Need-enum-told-2
+enum-told-2 c = search needs
+
+enum-told-3 : tie.Need-enum-told-3
+enum-told-3 c = search needs
+
+compare-row-requires : tie.Need-compare-row-requires
+compare-row-requires c κs = search needs
+
+decide-requires : tie.Need-decide-requires
+decide-requires c κs = search needs
+
+returns : tie.Need-returns
+returns c = (search row-left, search needs)
+
+returns-2 : tie.Need-returns-2
+returns-2 c = (search row-right, search needs)
+
+returns-3 : tie.Need-returns-3
+returns-3 c = (search row-compared, c .decide .ensures .1)
+
+pub visit-spec : {M : Type 1} → statement M
+visit-spec =
+    tie.close
+    (tie.spec
+    cast-d
+    cast-turn
+    reached-requires
+    turn-requires
+    enum-told
+    enum-told-2
+    enum-told-3
+    compare-row-requires
+    decide-requires
+    returns
+    returns-2
+    returns-3)

@@ -1,0 +1,185 @@
+// The step at one node, in parts: whether there is a node to visit, where its place and side send the walk, the
+// comparison with its label, and where the walk stands after it. The search and the search of an update are made of
+// these parts.
+pub mod turning;
+
+use compares::Compared;
+use orders::Order;
+use types::Limits;
+use types::Row;
+ghost use mathlib.Core.Path.{_≡_};
+ghost use Prim.Native.Nat.{_≤_};
+ghost use Rattle.labels.specs.Labels.{compareFrom};
+ghost use Rattle.compares.specs.Compares.{comparisonOf};
+ghost use Rattle.tables.specs.Words.{labelAt};
+ghost use Rattle.tables.specs.Steps.{isBad, compareStep};
+ghost use Rattle.nodes.specs.Nodes.{numberBefore, haltsAt, reachedOn, stepOf, rowStep, sonOf, spotAfter};
+ghost use Rattle.nodes.specs.Bounds.{AtRow, AtPlace, CanTest, CanStep, Onward};
+
+// Where the search of an update stands: the next link, the numbers P and S of the search steps, and the counts so far.
+pub struct Spot {
+    pub link: usize,
+    pub p: usize,
+    pub s: usize,
+    pub visits: usize,
+    pub places: usize,
+}
+
+// Where a node's place sends the walk: to a son, or to a comparison.
+pub enum Turn {
+    Left,
+    Right,
+    Compare,
+}
+
+// What a node's step does there: the label is found, or the walk goes to the right son or else to the left one.
+// With it go P and S after the step, and the places that it examined.
+pub struct Step {
+    pub found: bool,
+    pub right: bool,
+    pub p: usize,
+    pub s: usize,
+    pub examined: usize,
+}
+
+// The number before a place or a link; before 0, which is neither, the largest of all.
+fn prior(number: usize) -> usize
+    ensures { λ r. ⌜ r ≡ numberBefore number ⌝ }
+{
+    if number == 0 { usize::MAX } else { number - 1 }
+}
+
+// Whether a node's length, place or side breaks the walk.
+fn bad_row(limits: Limits, row: Row) -> bool
+    ensures { λ r. ⌜ r ≡ isBad limits row ⌝ }
+{
+    if (row.len == 0) | (limits.width < row.len as usize) {
+        return true;
+    }
+    if (row.len as usize) < prior(row.place as usize) {
+        return true;
+    }
+    1 < row.side
+}
+
+// Whether there is no node to visit: the link is empty, or the walk is broken there, with so many nodes left to visit.
+pub fn halts(limits: Limits, table: &[u16], link: usize, remaining: usize) -> bool
+    requires { ⌜ CanTest limits (now table) ⌝ }
+    ensures { λ r. ⌜ r ≡ haltsAt limits (now (table .entry)) link remaining ⌝ }
+{
+    if limits.slots <= prior(link) {
+        return true;
+    }
+    if remaining == 0 {
+        return true;
+    }
+    let row = words::read_row(table, link);
+    bad_row(limits, row)
+}
+
+// The comparison with the label of a node, from the node's place on.
+pub fn compare_row(limits: Limits, store: &[u8], label: &[u8], link: usize, row: Row) -> Compared
+    requires { ⌜ AtRow limits (now store) link row ⌝ }
+    ensures { λ r. ⌜
+        comparisonOf r
+        ≡ compareFrom (row .place) (now (label .entry)) (labelAt limits (now (store .entry)) link (row .len)) ⌝ }
+    ensures { λ r. ⌜ AtPlace (row .place) r ⌝ }
+{
+    let held = words::parts::label_at(limits, store, link, row.len as usize);
+    compares::compare(label, held, row.place as usize)
+}
+
+// The step after a comparison that started at place d.
+fn decide(p: usize, s: usize, d: usize, c: Compared) -> Step
+    requires { ⌜ AtPlace d c ⌝ }
+    ensures { λ r. ⌜ stepOf r ≡ compareStep (comparisonOf c) d p s ⌝ }
+    ensures { λ r. ⌜ r .examined ≤ 4097 ⌝ }
+{
+    let examined = c.place + 1 - d;
+    let place = c.place;
+    let order = c.order;
+    match order {
+        Order::Smaller => Step {
+            found: false,
+            right: false,
+            p,
+            s: place,
+            examined,
+        },
+        Order::Same => Step {
+            found: true,
+            right: false,
+            p,
+            s,
+            examined,
+        },
+        Order::Larger => Step {
+            found: false,
+            right: true,
+            p: place,
+            s,
+            examined,
+        },
+    }
+}
+
+// The number that a side goes by: P for predecessor, S for successor.
+fn reached(side: u16, spot: Spot) -> usize
+    ensures { λ r. ⌜ r ≡ reachedOn side (spot .p) (spot .s) ⌝ }
+{
+    if side == 0 { spot.p } else { spot.s }
+}
+
+// The whole step at a node with this row, where the walk is not broken.
+pub fn visit(limits: Limits, store: &[u8], label: &[u8], spot: Spot, row: Row) -> Step
+    requires { ⌜ AtRow limits (now store) (spot .link) row ⌝ }
+    ensures { λ r. ⌜
+        stepOf r ≡ rowStep limits (now (store .entry)) (now (label .entry)) (spot .link) row (spot .p) (spot .s) ⌝ }
+    ensures { λ r. ⌜ r .examined ≤ 4097 ⌝ }
+{
+    let d = row.place as usize;
+    let t = turning::turn(row.side as usize, d, reached(row.side, spot));
+    match t {
+        Turn::Left => Step {
+            found: false,
+            right: false,
+            p: spot.p,
+            s: spot.s,
+            examined: 0,
+        },
+        Turn::Right => Step {
+            found: false,
+            right: true,
+            p: spot.p,
+            s: spot.s,
+            examined: 0,
+        },
+        Turn::Compare => {
+            let c = compare_row(limits, store, label, spot.link, row);
+            decide(spot.p, spot.s, d, c)
+        }
+    }
+}
+
+// The link to a son.
+pub fn son(row: Row, right: bool) -> u16
+    ensures { λ r. ⌜ r ≡ sonOf row right ⌝ }
+{
+    if right { row.right } else { row.left }
+}
+
+// Where the walk stands after the step at a node with this row.
+pub fn after(spot: Spot, row: Row, step: Step) -> Spot
+    requires { ⌜ CanStep spot step ⌝ }
+    ensures { λ r. ⌜ r ≡ spotAfter spot row step ⌝ }
+    ensures { λ r. ⌜ Onward spot r ⌝ }
+{
+    let link = son(row, step.right) as usize;
+    Spot {
+        link,
+        p: step.p,
+        s: step.s,
+        visits: spot.visits + 1,
+        places: spot.places + step.examined,
+    }
+}

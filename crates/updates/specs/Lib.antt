@@ -1,3 +1,0 @@
-pub mod Inserts
-pub mod Deletes
-pub mod Fits

@@ -1,0 +1,2 @@
+pub mod WholeTests
+pub mod UpdateTests
