@@ -1,6 +1,6 @@
-// What can differ: the answer from that of the second writing of the paper; from that of the map; a search's counts from
-// both bounds; what a call left from what it is to leave; the check's answer; soundness; the listing; a label's view;
-// the words of the table's head; the refusal from the one that a case of the paper names.
+// What can differ: the answer from that of the second writing of the paper; from that of the map; a search's counts
+// from both bounds; what a call left from what it is to leave; the check's answer; soundness; the listing; a label's
+// view; the words of the table's head; the refusal from the one that a case of the paper names.
 pub const ANSWER: usize = 1;
 
 pub const MAP: usize = 2;

@@ -1,6 +1,6 @@
--- `oracles::sound::heights_hold` is safe and ends. The loop's invariant: its counter is not below its start. The measure
--- is what is left of the range. Assumes nothing.
-use Prim.Native.Nat.{_≤_, _-_}
+-- `oracles::sound::heights_hold` is safe and ends. The loop's invariant: its counter is not above its start. The
+-- measure is the counter. Assumes nothing.
+use Prim.Native.Nat.{_≤_}
 use borrow.Author.Needs.{needs}
 use Rattle.oracles.proofs.sound.heights_hold.Statement.{statement}
 use Rattle.oracles.proofs.sound.heights_hold.Tie as tie

@@ -1,5 +1,5 @@
--- `rounds::states::reading_fault` is safe and ends. The loop's invariant: its counter is not below its start. The measure
--- is what is left of the range. Assumes nothing.
+-- `rounds::states::reading_fault` is safe and ends. The loop's invariant: its counter is not below its start. The
+-- measure is what is left of the range. Assumes nothing.
 use Prim.Native.Nat.{_≤_, _-_}
 use borrow.Author.Needs.{needs}
 use Rattle.rounds.proofs.states.reading_fault.Statement.{statement}
