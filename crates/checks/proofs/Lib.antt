@@ -1,4 +1,3 @@
-pub mod OverLaws
 pub mod TreeLaws
 pub mod VisitLaws
 pub mod SonLaws

@@ -19,14 +19,16 @@ use Rattle.gaps.proofs.OrderTests.{test-of-before}
 use Rattle.gaps.proofs.GapLaws.{beside-held}
 use Rattle.nodechecks.specs.Nodes.{fineBetween, fineGaps}
 use Rattle.nodechecks.proofs.NodeTests.{NodeFine, node-passed}
-use Rattle.checks.specs.Check.{over, checkTree}
-use Rattle.checks.specs.Visits.{nodeTested}
-use Rattle.checks.specs.Fits.{WalkFits, SonsFit, SumsFit}
+use Rattle.heights.specs.declared.Subtree.{Subtree}
+use Rattle.heights.specs.declared.Subtree.the-variants.{Unsound, Sound}
+use Rattle.heights.specs.Over.{over}
+use Rattle.heights.specs.Fits.{SonsFit, SumsFit}
+use Rattle.heights.proofs.OverLaws.{sons-fit}
 use Rattle.checks.specs.declared.Node.{Node}
 use Rattle.checks.specs.declared.Node.the-variants.{Wrong, Fine}
-use Rattle.checks.specs.declared.Subtree.{Subtree}
-use Rattle.checks.specs.declared.Subtree.the-variants.{Unsound, Sound}
-use Rattle.checks.proofs.OverLaws.{sons-fit}
+use Rattle.checks.specs.Check.{checkTree}
+use Rattle.checks.specs.Visits.{nodeTested}
+use Rattle.checks.specs.Fits.{WalkFits}
 use Rattle.checks.proofs.TreeLaws.{sons, small-tree, tree-node, tree-none}
 use Rattle.checks.proofs.VisitLaws.{Passed, wrong-found, fine-found, node-short}
 

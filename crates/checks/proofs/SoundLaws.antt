@@ -15,8 +15,8 @@ use Rattle.tables.specs.Sound.{unusedSlots}
 use Rattle.words.specs.Limits.{SizesFit}
 use Rattle.checks.specs.Fits.{WalkFits}
 use Rattle.checks.specs.Check.{checkTree, checkChain, countIs, soundByWalks}
-use Rattle.checks.specs.declared.Subtree.{Subtree}
-use Rattle.checks.specs.declared.Subtree.the-variants.{Unsound, Sound}
+use Rattle.heights.specs.declared.Subtree.{Subtree}
+use Rattle.heights.specs.declared.Subtree.the-variants.{Unsound, Sound}
 
 -- the walk may start at the root, whose neighbours are both missing
 pub root-fits : (limits : Limits) (table store : List ℕ) → SizesFit limits table store

@@ -12,11 +12,12 @@ use lib.Dec.{ltb}
 use Rattle.types.specs.declared.Limits.{Limits}
 use Rattle.tables.specs.Words.{rowAt}
 use Rattle.nodechecks.specs.Nodes.{fineBetween}
-use Rattle.checks.specs.Check.{over, checkTree}
-use Rattle.checks.specs.Fits.{Small}
-use Rattle.checks.specs.declared.Subtree.{Subtree}
-use Rattle.checks.specs.declared.Subtree.the-variants.{Unsound, Sound}
-use Rattle.checks.proofs.OverLaws.{small-over}
+use Rattle.heights.specs.declared.Subtree.{Subtree}
+use Rattle.heights.specs.declared.Subtree.the-variants.{Unsound, Sound}
+use Rattle.heights.specs.Over.{over}
+use Rattle.heights.specs.Fits.{Small}
+use Rattle.heights.proofs.OverLaws.{small-over}
+use Rattle.checks.specs.Check.{checkTree}
 
 -- what is found at a link that is not 0: it is out of range, its node is not fine, or what both sons give
 abbrev pub found : (outside fine : Bool) → Subtree → Subtree

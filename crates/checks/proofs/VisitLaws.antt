@@ -19,8 +19,8 @@ use Rattle.nodechecks.specs.Nodes.{nodeFine, usedRow, bothWhen, fineGaps}
 use Rattle.nodechecks.proofs.RowLaws.{used-short}
 use Rattle.checks.specs.Visits.{testedBy, nodeTested}
 use Rattle.checks.specs.declared.Node.the-variants.{Wrong, Fine}
-use Rattle.checks.specs.declared.Subtree.{Subtree}
-use Rattle.checks.specs.declared.Subtree.the-variants.{Unsound}
+use Rattle.heights.specs.declared.Subtree.{Subtree}
+use Rattle.heights.specs.declared.Subtree.the-variants.{Unsound}
 use Rattle.checks.proofs.TreeLaws.{found}
 
 -- a visit that finds the node wrong

@@ -1,24 +1,16 @@
 -- The soundness test, as the code makes it: one walk over the tree with each node's neighbour window, one along the
 -- free chain, one over the unused rest.
 use mathlib.Core.List.{List}
-use mathlib.Core.Bool.{Bool, true, false, _&&_, cond}
-use Prim.Native.Nat.{ℕ, zero, suc, _+_, _-_, max}
+use mathlib.Core.Bool.{Bool, true, false, _&&_}
+use Prim.Native.Nat.{ℕ, zero, suc, _-_}
 use lib.Dec.{eqb, ltb, leb}
 use Rattle.types.specs.declared.Limits.{Limits}
 use Rattle.tables.specs.Words.{rootLink, labelsHeld, firstFree, highMark, rowAt, partAt}
-use Rattle.tables.specs.Prefix.{balanceOf}
 use Rattle.tables.specs.Sound.{allZero, zeroBesidesLeft, unusedSlots}
 use Rattle.nodechecks.specs.Nodes.{fineBetween}
-use Rattle.checks.specs.declared.Subtree.{Subtree}
-use Rattle.checks.specs.declared.Subtree.the-variants.{Unsound, Sound}
-pub use Rattle.gaps.specs.Windows.{belowIn, aboveIn}
-
--- a node over its sons: the height rule, and the true balance
-unfoldable pub over : (balance : ℕ) → Subtree → Subtree → Subtree
-over balance Unsound r = Unsound
-over balance (Sound h c) Unsound = Unsound
-over balance (Sound h c) (Sound k d) =
-    cond (leb h (k + 1) && (leb k (h + 1) && eqb balance (balanceOf h k))) (Sound (max h k + 1) (c + d + 1)) Unsound
+use Rattle.heights.specs.declared.Subtree.{Subtree}
+use Rattle.heights.specs.declared.Subtree.the-variants.{Unsound, Sound}
+use Rattle.heights.specs.Over.{over}
 
 -- the subtree at a link, at most remaining nodes deep, between the nodes in the slots below and above
 unfoldable pub checkTree : Limits → (table store : List ℕ) → (remaining link below above : ℕ) → Subtree

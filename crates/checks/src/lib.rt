@@ -4,16 +4,11 @@
 // It changes nothing, and ends at the first word, byte or node that is not as it must be.
 pub mod walks;
 
+use heights::Subtree;
 use types::Limits;
 ghost use mathlib.Core.Path.{_≡_};
 ghost use Rattle.words.specs.Limits.{SizesFit};
 ghost use Rattle.checks.specs.Check.{countIs, soundByWalks};
-
-// What the test of a subtree finds: it is not sound, or its height and the number of its nodes.
-pub enum Subtree {
-    Unsound,
-    Sound { height: usize, count: usize },
-}
 
 // What the test of a node finds: it is not as it must be, or its links, its balance word and its difference places.
 pub enum Node {

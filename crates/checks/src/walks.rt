@@ -1,60 +1,17 @@
 // The walks of the soundness test: over the tree, each node between the slots of its nearest smaller
 // and larger node above, along the free chain, and over the unused rest.
 use crate::Node;
-use crate::Subtree;
 use gaps::Gaps;
+use heights::Subtree;
+use heights::over_left;
+use heights::over_sound;
 use types::Limits;
 ghost use mathlib.Core.Path.{_≡_};
-ghost use Rattle.tables.specs.Prefix.{balanceOf};
 ghost use Rattle.tables.specs.Sound.{unusedSlots};
 ghost use Rattle.words.specs.Limits.{SizesFit};
-ghost use Rattle.checks.specs.Check.{over, checkTree, checkChain};
-ghost use Rattle.checks.specs.Fits.{SumsFit, SonsFit, VisitFits, WalkFits, ChainFits};
+ghost use Rattle.checks.specs.Check.{checkTree, checkChain};
+ghost use Rattle.checks.specs.Fits.{VisitFits, WalkFits, ChainFits};
 ghost use Rattle.checks.specs.Visits.{nodeTested};
-
-// The balance word over sons of two heights.
-fn balance_of(left: usize, right: usize) -> u16
-    ensures { λ r. ⌜ r ≡ balanceOf left right ⌝ }
-{
-    if right < left {
-        return 0;
-    }
-    if left < right {
-        return 2;
-    }
-    1
-}
-
-// A node over two sound sons of heights h and k, with c and d nodes.
-fn over_sound(balance: u16, h: usize, c: usize, k: usize, d: usize) -> Subtree
-    requires { ⌜ SumsFit h c k d ⌝ }
-    ensures { λ r. ⌜ r ≡ over balance (Subtree.Sound h c) (Subtree.Sound k d) ⌝ }
-{
-    if k + 1 < h {
-        return Subtree::Unsound;
-    }
-    if h + 1 < k {
-        return Subtree::Unsound;
-    }
-    if balance != balance_of(h, k) {
-        return Subtree::Unsound;
-    }
-    Subtree::Sound {
-        height: gaps::larger(h, k) + 1,
-        count: c + d + 1,
-    }
-}
-
-// A node over a sound left son of height h with c nodes, and a right son.
-fn over_left(balance: u16, h: usize, c: usize, right: Subtree) -> Subtree
-    requires { ⌜ SonsFit h c right ⌝ }
-    ensures { λ r. ⌜ r ≡ over balance (Subtree.Sound h c) right ⌝ }
-{
-    match right {
-        Subtree::Unsound => Subtree::Unsound,
-        Subtree::Sound { height, count } => over_sound(balance, h, c, height, count),
-    }
-}
 
 // The node in a slot between the slots below and above, which part at a place: what the walk goes on with.
 fn visit(

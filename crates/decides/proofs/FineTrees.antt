@@ -19,8 +19,8 @@ use Rattle.tables.specs.Prefix.{balanceOf}
 use Rattle.tables.specs.Sound.{usedSlots, trueBalances, truePrefixes}
 use Rattle.nodechecks.specs.Nodes.{nodeFine}
 use Rattle.nodechecks.proofs.NodeTests.{NodeFine, node-passed}
-use Rattle.checks.specs.declared.Subtree.{Subtree}
-use Rattle.checks.specs.declared.Subtree.the-variants.{Sound}
+use Rattle.heights.specs.declared.Subtree.{Subtree}
+use Rattle.heights.specs.declared.Subtree.the-variants.{Sound}
 use Rattle.trees.proofs.Passing.{and-true}
 use Rattle.tables.proofs.Reading.{Stands, stands-none, stands-node}
 use Rattle.decides.proofs.TreeWalks.{keptIf, checkNodes}

@@ -19,9 +19,9 @@ use Rattle.tables.specs.Prefix.{balanceOf}
 use Rattle.gaps.proofs.OrderTests.{test-of-before}
 use Rattle.nodechecks.specs.Nodes.{nodeFine}
 use Rattle.nodechecks.proofs.NodeTests.{NodeFine}
-use Rattle.checks.specs.Check.{over}
-use Rattle.checks.specs.declared.Subtree.{Subtree}
-use Rattle.checks.specs.declared.Subtree.the-variants.{Unsound, Sound}
+use Rattle.heights.specs.Over.{over}
+use Rattle.heights.specs.declared.Subtree.{Subtree}
+use Rattle.heights.specs.declared.Subtree.the-variants.{Unsound, Sound}
 
 -- A node that is fine passes its test.
 pub node-passes : (limits : Limits) (table store : List ℕ) (k : ℕ) (p s : Neighbour)

@@ -17,8 +17,8 @@ use Rattle.trees.proofs.Sorted.{ascends-of-between}
 use Rattle.tables.specs.Words.{rootLink, labelsHeld, firstFree, highMark}
 use Rattle.tables.specs.Sound.{Reading, reads, readTree, unusedSlots, sound}
 use Rattle.checks.specs.Check.{checkTree, checkChain, countIs, soundByWalks}
-use Rattle.checks.specs.declared.Subtree.{Subtree}
-use Rattle.checks.specs.declared.Subtree.the-variants.{Unsound, Sound}
+use Rattle.heights.specs.declared.Subtree.{Subtree}
+use Rattle.heights.specs.declared.Subtree.the-variants.{Unsound, Sound}
 use Rattle.trees.proofs.Passing.{false-not-true, same-tests}
 use Rattle.tables.proofs.Reading.{Stands, TreeRead, no-tree, a-tree, tree-read, chain-read}
 use Rattle.tables.proofs.Reading.{read-when-follows}

@@ -13,9 +13,10 @@ use Rattle.tables.specs.Words.{rowAt}
 use Rattle.tables.specs.Sound.{Reading, unreadable, reads, readNode, readTree}
 use Rattle.gaps.specs.Windows.{belowIn, aboveIn}
 use Rattle.nodechecks.specs.Nodes.{nodeFine}
-use Rattle.checks.specs.Check.{over, checkTree}
-use Rattle.checks.specs.declared.Subtree.{Subtree}
-use Rattle.checks.specs.declared.Subtree.the-variants.{Unsound, Sound}
+use Rattle.heights.specs.declared.Subtree.{Subtree}
+use Rattle.heights.specs.declared.Subtree.the-variants.{Unsound, Sound}
+use Rattle.heights.specs.Over.{over}
+use Rattle.checks.specs.Check.{checkTree}
 
 -- a node's result, where the node itself is fine
 abbrev pub keptIf : Bool → Subtree → Subtree

@@ -6,7 +6,7 @@ use types::Refusal;
 use types::UpdateAnswer;
 ghost use Rattle.types.specs.Answers.{updateSays};
 ghost use Rattle.tables.specs.Outcomes.{deleteOutcome};
-ghost use Rattle.views.specs.Given.{Gives};
+ghost use Rattle.tables.specs.Given.{Gives};
 ghost use Rattle.endings.specs.Ready.{EditsFit, Ready};
 
 // Deletes from a sound table: refused by 8 where the label is not held.

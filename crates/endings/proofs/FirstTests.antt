@@ -15,7 +15,7 @@ use Rattle.trees.specs.Plain.{Call}
 use Rattle.tables.specs.Sound.{sound}
 use Rattle.tables.specs.Outcomes.{Verdict, pass, refuse, ofLabel, ofTable, Outcome, outcomeBy}
 use Rattle.tables.specs.Outcomes.{updateOutcome, insertOutcome, deleteOutcome}
-use Rattle.views.specs.Given.{Gives}
+use Rattle.tables.specs.Given.{Gives}
 use Rattle.lengths.specs.declared.Early.{Early}
 use Rattle.lengths.specs.declared.Early.the-variants.{Pass, Refused}
 use Rattle.lengths.specs.Early.{earlySays}

@@ -13,7 +13,7 @@ use Rattle.tables.specs.Outcomes.{Outcome, insertOutcome, deleteOutcome}
 use Rattle.written.proofs.Rows.{root-of-written}
 use Rattle.written.proofs.Slots.{written-represents}
 use Rattle.written.proofs.Held.{height-within}
-use Rattle.views.specs.Given.{Gives}
+use Rattle.tables.specs.Given.{Gives}
 use Rattle.traces.specs.declared.Trace.{Trace}
 use Rattle.slots.specs.Slots.{slotTaken, withLabel, withoutLabel}
 use Rattle.traces.specs.Traces.{traced}

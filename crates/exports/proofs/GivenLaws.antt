@@ -15,7 +15,7 @@ use Rattle.types.specs.Sizes.{hub}
 use Rattle.types.specs.Answers.{Answer, done, refused, refusalNumber, doneSays}
 use Rattle.tables.specs.Words.{partStart}
 use Rattle.tables.specs.Outcomes.{Outcome, Listing, Verdict, pass, refuse, answerBy, viewVerdict, viewOutcome, viewPart}
-use Rattle.views.specs.Given.{Gives}
+use Rattle.tables.specs.Given.{Gives}
 use Rattle.views.specs.Parts.{startBy, viewStart, Views}
 use Rattle.words.specs.Parts.{StartFits}
 use Rattle.views.proofs.ViewLaws.{view-start}

@@ -16,7 +16,7 @@ use Rattle.orders.specs.declared.Order.the-variants.{Smaller, Same, Larger}
 use Rattle.compares.specs.declared.Compared.{Compared}
 use Rattle.orders.specs.Orders.{comparisonBy}
 use Rattle.compares.specs.Compares.{comparisonOf}
-use Rattle.checks.specs.Check.{belowIn, aboveIn}
+use Rattle.gaps.specs.Windows.{belowIn, aboveIn}
 use Rattle.fields.specs.declared.Fields.{Fields}
 use Rattle.fields.specs.Between.{fieldsBetween}
 

@@ -5,7 +5,7 @@ use Rattle.types.specs.declared.Limits.{Limits}
 use Rattle.labels.specs.Neighbours.{held, difference}
 use Rattle.tables.specs.Words.{entryAt}
 use Rattle.tables.specs.Prefix.{sideBy}
-use Rattle.checks.specs.Check.{belowIn, aboveIn}
+use Rattle.gaps.specs.Windows.{belowIn, aboveIn}
 use Rattle.fields.specs.declared.Fields.{Fields}
 
 abbrev pub noFields : Fields

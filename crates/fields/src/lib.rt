@@ -7,7 +7,7 @@ ghost use Rattle.labels.specs.Labels.{differencePlace};
 ghost use Rattle.labels.specs.Neighbours.{held, difference};
 ghost use Rattle.tables.specs.Words.{entryAt};
 ghost use Rattle.tables.specs.Prefix.{sideBy};
-ghost use Rattle.checks.specs.Check.{belowIn, aboveIn};
+ghost use Rattle.gaps.specs.Windows.{belowIn, aboveIn};
 ghost use Rattle.fields.specs.Fits.{RowsFit};
 ghost use Rattle.fields.specs.Between.{fieldsBetween};
 

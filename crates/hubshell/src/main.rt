@@ -4,5 +4,5 @@
 use libc::STDIN_FILENO;
 
 fn main() {
-    pipes::run(STDIN_FILENO);
+    shell::pipes::run(STDIN_FILENO);
 }

@@ -18,6 +18,6 @@ fn answer(name: &[u8]) {
         io::write_all(STDOUT_FILENO, b"missing\n");
         return;
     }
-    pipes::run(file);
+    shell::pipes::run(file);
     libc::close(file);
 }

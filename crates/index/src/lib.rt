@@ -9,7 +9,7 @@ ghost use Rattle.types.specs.Sizes.{hub};
 ghost use Rattle.types.specs.Answers.{searchSays, updateSays, doneSays, listSays};
 ghost use Rattle.tables.specs.Outcomes.{layoutOutcome, searchOutcome, insertOutcome, deleteOutcome};
 ghost use Rattle.tables.specs.Outcomes.{checkOutcome, listingOutcome, viewOutcome};
-ghost use Rattle.views.specs.Given.{Gives};
+ghost use Rattle.tables.specs.Given.{Gives};
 ghost use Rattle.views.specs.Parts.{Views};
 ghost use Rattle.lists.specs.Given.{Lists};
 
@@ -19,7 +19,7 @@ pub fn layout(table: &mut [u16], store: &mut [u8]) -> DoneAnswer
         Gives (layoutOutcome hub (now (table .entry)) (now (store .entry)))
         (doneSays r) (now (table .exit)) (now (store .exit)) ⌝ }
 {
-    views::layouts::layout_within(types::hub(), table, store)
+    layouts::layout_within(types::hub(), table, store)
 }
 
 // Searches for a label by the search steps, with both counts. Refused by 1 to 5.

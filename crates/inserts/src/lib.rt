@@ -6,7 +6,7 @@ use types::Refusal;
 use types::UpdateAnswer;
 ghost use Rattle.types.specs.Answers.{updateSays};
 ghost use Rattle.tables.specs.Outcomes.{insertOutcome};
-ghost use Rattle.views.specs.Given.{Gives};
+ghost use Rattle.tables.specs.Given.{Gives};
 ghost use Rattle.endings.specs.Ready.{EditsFit, Ready};
 
 // Inserts into a sound table: refused by 7 where the label is held, by 9 where the table is full.

@@ -1,7 +1,7 @@
 // The two bounds on a search's counts.
-use crate::memory;
-use crate::memory::Image;
-use crate::packing;
+use images::memory;
+use images::memory::Image;
+use images::packing;
 use std::num::wrapping_add_usize;
 
 // The nodes of the smallest height-balanced tree of a height.

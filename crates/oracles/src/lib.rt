@@ -1,10 +1,5 @@
-// The paper written a second time, to hold the index against: lengths, search steps, soundness, bounds and outcomes.
-// Each function takes any memory and any numbers.
+// Search steps, bounds and outcomes, written a second time from the paper, to hold the index against. Each function
+// takes any memory and any numbers.
 pub mod bounds;
-pub mod lengths;
-pub mod listings;
-pub mod memory;
 pub mod outcomes;
-pub mod packing;
-pub mod sound;
 pub mod steps;

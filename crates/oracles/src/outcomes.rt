@@ -1,12 +1,12 @@
 // What each call says and leaves on memory of any lengths and content; of an update that is not refused, what it says.
-use crate::lengths;
-use crate::listings;
-use crate::memory;
-use crate::memory::Image;
-use crate::packing;
-use crate::packing::refused;
-use crate::sound;
 use crate::steps;
+use audits::lengths;
+use audits::listings;
+use audits::sound;
+use images::memory;
+use images::memory::Image;
+use images::packing;
+use images::packing::refused;
 use samples::calls::CHECK;
 use samples::calls::DELETE;
 use samples::calls::INSERT;

@@ -1,8 +1,8 @@
 // The search steps.
-use crate::lengths::label_refusal;
-use crate::memory;
-use crate::memory::Image;
-use crate::packing;
+use audits::lengths::label_refusal;
+use images::memory;
+use images::memory::Image;
+use images::packing;
 use plainmap::labels::label_number;
 use std::num::wrapping_add_usize;
 use std::num::wrapping_sub_usize;

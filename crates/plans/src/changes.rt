@@ -1,7 +1,8 @@
 // The changes that damage a sound table: what is written where.
-use oracles::memory;
-use oracles::memory::Image;
+use images::memory;
+use images::memory::Image;
 use samples::numbers;
+use samples::shapes;
 use std::num::wrapping_add_usize;
 use std::num::wrapping_sub_usize;
 
@@ -18,9 +19,9 @@ pub const FREED: usize = 5;
 pub const CYCLE: usize = 6;
 
 // An entry of the image, and what is written there.
-pub struct Written {
-    pub entry: usize,
-    pub to: usize,
+struct Written {
+    entry: usize,
+    to: usize,
 }
 
 // A word of the table becomes a number; where there is no such word, nothing.
@@ -35,8 +36,30 @@ fn word_to(word: usize, to: usize) -> Written {
     }
 }
 
+// How many changes of a kind are made on a table of a shape.
+pub fn times(shape: usize, kind: usize) -> usize {
+    if shape == shapes::ROSTER {
+        return 150;
+    }
+    match kind {
+        0 => 900,
+        BYTE => 500,
+        _ => 300,
+    }
+}
+
+// Makes a change on a copy of the memory; whether it is one of its kind.
+pub fn make(image: &Image, copy: &mut Image, kind: usize, seed: u64) -> bool {
+    let n = writes(kind);
+    for j in 0..n {
+        let written = write(image, kind, seed, j);
+        memory::put(copy, written.entry, written.to);
+    }
+    memory::unlike(image, copy) >= differing(kind)
+}
+
 // How many entries a change writes.
-pub fn writes(kind: usize) -> usize {
+fn writes(kind: usize) -> usize {
     match kind {
         0 => 1,
         1 => 2,
@@ -47,7 +70,7 @@ pub fn writes(kind: usize) -> usize {
 }
 
 // How many entries must differ, at least, for the change to be one of its kind.
-pub fn differing(kind: usize) -> usize {
+fn differing(kind: usize) -> usize {
     match kind {
         1 => 2,
         2 => 3,
@@ -57,7 +80,7 @@ pub fn differing(kind: usize) -> usize {
 }
 
 // Written `j` of a change, with its number of the generator.
-pub fn write(image: &Image, kind: usize, seed: u64, j: usize) -> Written {
+fn write(image: &Image, kind: usize, seed: u64, j: usize) -> Written {
     match kind {
         BYTE => byte_write(image, seed),
         ROWS => row_write(image, seed, j),

@@ -10,7 +10,7 @@ use Rattle.types.specs.Answers.{searchSays, updateSays}
 use Rattle.types.specs.declared.SearchAnswer.{SearchAnswer}
 use Rattle.types.specs.declared.UpdateAnswer.{UpdateAnswer}
 use Rattle.tables.specs.Outcomes.{insertOutcome, deleteOutcome, searchOutcome}
-use Rattle.views.specs.Given.{Gives}
+use Rattle.tables.specs.Given.{Gives}
 use Rattle.lines.specs.declared.Command as code
 use Rattle.lines.specs.Commands.{askedBy, asks}
 use Rattle.texts.specs.declared.Said as said

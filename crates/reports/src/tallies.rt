@@ -121,7 +121,7 @@ pub fn print_lengths(shape: usize, tally: Tally) {
         shape,
         b", other lengths",
         0,
-        b": calls 0, mismatches 7",
+        b": changes 8, calls 0, mismatches 7",
         tally,
     );
 }

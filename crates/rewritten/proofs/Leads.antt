@@ -15,7 +15,7 @@ use Rattle.labels.specs.Neighbours.{Neighbour, held}
 use Rattle.trees.specs.Trees.{Entry, Side, left, right}
 use Rattle.trees.specs.Searches.{Held, absent, found, Search, visit, searchBy}
 use Rattle.tables.specs.Steps.{Step, Walk, ended, visitThen, walkBy}
-use Rattle.checks.specs.Check.{belowIn, aboveIn}
+use Rattle.gaps.specs.Windows.{belowIn, aboveIn}
 use Rattle.nodes.specs.declared.Spot.{Spot}
 use Rattle.steps.proofs.Window.{Sought}
 use Rattle.steps.proofs.Node.{Goes, goes-left, goes-stop, goes-right}

@@ -14,7 +14,7 @@ use Rattle.labels.specs.Labels.{Label}
 use Rattle.labels.specs.Neighbours.{Neighbour, none-below, none-above}
 use Rattle.trees.specs.Trees.{Entry, empty}
 use Rattle.tables.specs.Prefix.{sideBy, sideWithin}
-use Rattle.checks.specs.Check.{belowIn, aboveIn}
+use Rattle.gaps.specs.Windows.{belowIn, aboveIn}
 use Rattle.steps.proofs.Window.{Sought}
 use Rattle.steps.proofs.Leaf.{place-of-leaf, side-of-leaf}
 use Rattle.rotations.proofs.Rep.{bareWithin, bareRow}

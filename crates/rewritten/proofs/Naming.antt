@@ -12,7 +12,7 @@ use Rattle.labels.specs.Neighbours.{Neighbour, held}
 use Rattle.trees.specs.Trees.{Entry, Tree, empty, node}
 use Rattle.trees.specs.Updates.{withoutLeast}
 use Rattle.tables.specs.Words.{rowAt, labelAt, entryAt}
-use Rattle.checks.specs.Check.{belowIn, aboveIn}
+use Rattle.gaps.specs.Windows.{belowIn, aboveIn}
 use Rattle.rotations.proofs.Rep.{Stands, Rep}
 
 -- a node's label stands in its slot's part of the store

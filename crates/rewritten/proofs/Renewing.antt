@@ -20,7 +20,7 @@ use Rattle.tables.specs.Words.{rowAt, entryAt}
 use Rattle.tables.specs.Prefix.{sideWithin}
 use Rattle.words.specs.Rows.{HasRow}
 use Rattle.words.proofs.Laws.{row-put-same, row-put-other}
-use Rattle.checks.specs.Check.{belowIn, aboveIn}
+use Rattle.gaps.specs.Windows.{belowIn, aboveIn}
 use Rattle.sides.specs.Rows.{prefixed}
 use Rattle.rotations.proofs.Rep.{bareWithin, Stands, Frame}
 use Rattle.rotations.proofs.Frames.{frame-none, frame-wider, has-framed}

@@ -10,7 +10,7 @@ use Rattle.labels.specs.Neighbours.{Neighbour, held}
 use Rattle.trees.specs.Trees.{Entry, Tree, node, slots}
 use Rattle.trees.specs.Heights.{height}
 use Rattle.trees.proofs.SlotCounts.{occurrences-of-node}
-use Rattle.checks.specs.Check.{belowIn, aboveIn}
+use Rattle.gaps.specs.Windows.{belowIn, aboveIn}
 use Rattle.rotations.proofs.Rep.{Rep, Once}
 use Rattle.rewritten.proofs.Naming.{LabelsStored}
 

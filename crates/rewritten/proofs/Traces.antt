@@ -11,7 +11,7 @@ use Rattle.trees.specs.Trees.{Tree}
 use Rattle.trees.specs.Searches.{Held, absent, found, fullSearch}
 use Rattle.tables.specs.Steps.{searchSteps}
 use Rattle.tables.specs.Outcomes.{visitsOf, placesOf}
-use Rattle.checks.specs.Check.{belowIn, aboveIn}
+use Rattle.gaps.specs.Windows.{belowIn, aboveIn}
 use Rattle.steps.proofs.Window.{Sought}
 use Rattle.paths.specs.Paths.{pathOf}
 use Rattle.rotations.proofs.Along.{sidesTo, lowTo, highTo}

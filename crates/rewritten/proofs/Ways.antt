@@ -19,7 +19,7 @@ use Rattle.tables.specs.Written.{linkOf, nodeRow}
 use Rattle.tables.specs.Steps.{ended, stepAt, steps, searchSteps}
 use Rattle.tables.specs.Outcomes.{visitsOf, placesOf}
 use Rattle.tables.proofs.Represents.{NodeHeld, Represents}
-use Rattle.checks.specs.Check.{belowIn, aboveIn}
+use Rattle.gaps.specs.Windows.{belowIn, aboveIn}
 use Rattle.nodes.specs.declared.Spot.{Spot}
 use Rattle.nodes.specs.Nodes.{haltsAt, rowStep}
 use Rattle.steps.proofs.Window.{Sought, sought-first}

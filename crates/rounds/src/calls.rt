@@ -1,8 +1,8 @@
 // The calls of the index on the memory that an image holds, lent at the lengths that it says.
-use oracles::memory;
-use oracles::memory::Image;
-use oracles::memory::Lent;
-use oracles::packing;
+use images::memory;
+use images::memory::Image;
+use images::memory::Lent;
+use images::packing;
 use samples::calls::CHECK;
 use samples::calls::DELETE;
 use samples::calls::INSERT;

@@ -1,66 +1,31 @@
-// The memory after a call on a sound table, compared with the map.
+// The memory after a call on a sound table, compared with the map, by the second writing and by calls that read it.
 use crate::calls;
-use oracles::memory;
-use oracles::memory::Image;
-use oracles::memory::Lent;
-use oracles::packing;
+use images::memory;
+use images::memory::Image;
+use images::memory::Lent;
+use images::packing;
 use plainmap::lists::Lists;
 use reports::faults;
 use samples::calls::LISTING;
 
-// Soundness, by the second writing and by the index; the head's words; the listing; every label through the view.
-pub fn compare(image: &Image, map: &Lists) -> usize {
-    if !oracles::sound::is_sound(image) {
-        return faults::SOUND;
+// The fault of what a call left; where the second writing has none, that of the index's own check, listing and views.
+pub fn fault(found: &Image, left: &Image, map: &Lists, said: usize) -> usize {
+    let fault = comparisons::states::fault(found, left, map, said);
+    if fault > 0 {
+        return fault;
     }
-    if !head_agrees(image, map) {
-        return faults::HEAD;
+    let mut copy = *left;
+    let listed = calls::make(&mut copy, LISTING, b"", 0);
+    if comparisons::states::listing_agrees(&copy, map, listed) {
+        return read_fault(left, map);
     }
-    if !listing_agrees(image, map) {
-        return faults::LISTING;
-    }
+    faults::LISTING
+}
+
+fn read_fault(image: &Image, map: &Lists) -> usize {
     let words = memory::words_of(image);
     let bytes = memory::bytes_of(image);
     lent_fault(&words, &bytes, memory::lengths(image), map)
-}
-
-// The labels held, the high mark, and the slot freed last.
-fn head_agrees(image: &Image, map: &Lists) -> bool {
-    if memory::word(image, memory::HELD) != plainmap::held(map) {
-        return false;
-    }
-    if memory::word(image, memory::MARK) != plainmap::high(map) {
-        return false;
-    }
-    memory::word(image, memory::FREE) == plainmap::last_freed(map)
-}
-
-// The listing's count and words, the later ones, which stay, and the values of the slots listed.
-fn listing_agrees(image: &Image, map: &Lists) -> bool {
-    let mut copy = *image;
-    if calls::make(&mut copy, LISTING, b"", 0)
-        != packing::plain(packing::LISTED, plainmap::held(map))
-    {
-        return false;
-    }
-    for i in 0..513usize {
-        if !listed(&copy, map, i) {
-            return false;
-        }
-    }
-    true
-}
-
-// Whether word `i` of the list is the slot of the map's label there, with its value, or has stayed.
-fn listed(image: &Image, map: &Lists, i: usize) -> bool {
-    let word = memory::entry(image, std::num::wrapping_add_usize(memory::LIST, i));
-    if i >= plainmap::held(map) {
-        return word == 65535;
-    }
-    if word != plainmap::slot_at(map, i) {
-        return false;
-    }
-    memory::field(image, word, memory::VALUE) == plainmap::value_of(map, word)
 }
 
 // The fault of the check, or of a view, on the first words and bytes.
@@ -83,16 +48,9 @@ fn reading_fault(table: &[u16], store: &[u8], map: &Lists) -> usize {
     let n = plainmap::held(map);
     for i in 0..n {
         let slot = plainmap::slot_at(map, i);
-        if !spells(map, slot, index::view(table, store, slot)) {
+        if !comparisons::states::spells(map, slot, index::view(table, store, slot)) {
             return faults::VIEW;
         }
     }
     0
-}
-
-fn spells(map: &Lists, slot: usize, label: &[u8]) -> bool {
-    if label.len() != plainmap::length_of(map, slot) {
-        return false;
-    }
-    plainmap::labels::difference(map, slot, label) == 0
 }

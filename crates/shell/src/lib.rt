@@ -1,5 +1,7 @@
 // The shell over the label index: it takes the bytes of an input as they come, and the input's end, and puts what it
-// says into a lent buffer. Reading and writing are left to the program.
+// says into a lent buffer. Reading and writing have a module of their own.
+pub mod pipes;
+
 use keeps::Line;
 ghost use mathlib.Core.Path.{_≡_};
 ghost use Prim.Native.Nat.{_+_, _*_, _≤_};

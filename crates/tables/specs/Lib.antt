@@ -5,4 +5,5 @@ pub mod Steps
 pub mod Sound
 pub mod Paths
 pub mod Outcomes
+pub mod Given
 pub mod Claims

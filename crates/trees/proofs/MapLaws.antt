@@ -2,7 +2,7 @@
 -- lookup-of-search: the full search finds what the map holds.
 -- map-of-inserted, map-of-deleted: insert and delete on the tree are those on the map.
 -- keys-of-map: the map has the tree's labels.
-use mathlib.Core.List.{_∷_, _++_, map, map-append, map-map}
+use mathlib.Core.List.{_∷_, _++_, map-append, map-map}
 use mathlib.Core.Option.{Option, none, some}
 use mathlib.Core.Path.{_≡_, refl, sym, ap, _∙_}
 use mathlib.Core.Bool.{true}

@@ -3,7 +3,7 @@
 -- found-node: it is a node of the tree.
 -- node-between: a node of an ordered tree lies within the tree's window.
 -- node-found: a search of an ordered tree for the label of one of its nodes finds that node.
-use mathlib.Core.Path.{_≡_, refl, ap, _∙_}
+use mathlib.Core.Path.{_≡_, ap, _∙_}
 use Rattle.labels.specs.Labels.{Label, Comparison, smaller, same, larger, compareLabels}
 use Rattle.labels.specs.Labels.{Finds, is-smaller, is-same, is-larger}
 use Rattle.labels.specs.Neighbours.{Neighbour, held}

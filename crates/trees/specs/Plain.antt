@@ -6,7 +6,7 @@ use Prim.Native.Nat.{ℕ, suc}
 use lib.Dec.{ltb, leb, eqb}
 use lib.ListN.{length}
 use Rattle.labels.specs.Labels.{Label}
-use Rattle.trees.specs.Trees.{Entry, Tree, empty, size}
+use Rattle.trees.specs.Trees.{Tree, empty, size}
 use Rattle.trees.specs.Searches.{Held, absent, found, fullSearch}
 use Rattle.trees.specs.Updates.{inserted, deleted}
 

@@ -1,8 +1,6 @@
 // The groups of calls on damaged memory: sound tables with words, bytes, rows or links changed.
-use oracles::memory;
-use oracles::memory::Image;
+use images::memory::Image;
 use plans::changes;
-use plans::changes::BYTE;
 use plans::changes::KINDS;
 use reports::tallies;
 use reports::tallies::CALLS;
@@ -20,22 +18,10 @@ pub fn run(image: &Image, shape: usize) {
     }
 }
 
-// How many changes are made.
-fn times(shape: usize, kind: usize) -> usize {
-    if shape == shapes::ROSTER {
-        return 150;
-    }
-    match kind {
-        0 => 900,
-        BYTE => 500,
-        _ => 300,
-    }
-}
-
 fn group(image: &Image, shape: usize, kind: usize) -> Tally {
     let mut tally = tallies::none();
     let mut seed = numbers::SEED;
-    let n = times(shape, kind);
+    let n = changes::times(shape, kind);
     for i in 0..n {
         seed = numbers::next(seed);
         let counted = change(image, shape, kind, seed, tally);
@@ -60,16 +46,11 @@ fn change(image: &Image, shape: usize, kind: usize, seed: u64, tally: Tally) -> 
 
 // Makes a change on a copy of the memory; where the copy differs, counts it and makes every call on it.
 fn drawn(image: &Image, shape: usize, kind: usize, seed: u64, tally: Tally) -> Tally {
-    let mut left = *image;
-    let n = changes::writes(kind);
-    for j in 0..n {
-        let write = changes::write(image, kind, seed, j);
-        memory::put(&mut left, write.entry, write.to);
-    }
-    if memory::unlike(image, &left) < changes::differing(kind) {
+    let mut copy = *image;
+    if !changes::make(image, &mut copy, kind, seed) {
         return tally;
     }
-    every(&left, shape, seed, tally)
+    every(&copy, shape, seed, tally)
 }
 
 // Makes every call on changed memory, with a label of the shape and a slot, and counts.
@@ -78,7 +59,7 @@ fn every(image: &Image, shape: usize, seed: u64, tally: Tally) -> Tally {
     let n = shapes::write(&mut label, shape, numbers::below(seed, 80));
     let slot = numbers::below(numbers::next(seed), 80);
     let changed = tallies::one_more(tally, CHANGES);
-    let counted = tallies::one_more_if(changed, SOUND, oracles::sound::is_sound(image));
+    let counted = tallies::one_more_if(changed, SOUND, audits::sound::is_sound(image));
     calls(image, shapes::opening(&label, n), slot, counted)
 }
 

@@ -5,8 +5,8 @@ mod damage;
 mod lent;
 mod sequences;
 
-use oracles::memory;
-use oracles::memory::Image;
+use images::memory;
+use images::memory::Image;
 use plainmap::lists::Lists;
 use plans::groups;
 

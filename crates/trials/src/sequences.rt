@@ -1,6 +1,6 @@
 // The groups of calls on sound tables, made and counted.
-use oracles::memory;
-use oracles::memory::Image;
+use images::memory;
+use images::memory::Image;
 use plainmap::lists::Lists;
 use plans::groups;
 use plans::groups::Plan;

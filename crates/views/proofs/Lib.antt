@@ -1,4 +1,2 @@
-pub mod Clears
 pub mod Verdicts
 pub mod ViewLaws
-pub mod LayoutLaws

@@ -1,7 +1,5 @@
 // The label view of an index of any sizes, in two calls on equal inputs: one gives the refusal number or done,
-// the other the part of the store. Layout has a module of its own.
-pub mod layouts;
-
+// the other the part of the store.
 use lengths::Early;
 use types::DoneAnswer;
 use types::Limits;

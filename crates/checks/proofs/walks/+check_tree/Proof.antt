@@ -11,8 +11,8 @@ use borrow.Fn.PlainCycle.{Measures, is, falls, and}
 use Rattle.checks.proofs.walks.check_tree.Reads as check-tree
 use Rattle.checks.proofs.walks.check_tree.Kinds as check-tree-kinds
 use Rattle.checks.proofs.walks.+check_tree.Lts-check_tree as lts
-use Rattle.checks.proofs.walks.over_left.Reads as over-left-reads
-use Rattle.checks.proofs.walks.over_sound.Reads as over-sound-reads
+use Rattle.heights.proofs.over_left.Reads as over-left-reads
+use Rattle.heights.proofs.over_sound.Reads as over-sound-reads
 use Rattle.checks.proofs.walks.visit.Reads as visit-reads
 use Rattle.checks.proofs.walks.+check_tree.{statement}
 use Rattle.checks.proofs.walks.+check_tree.Tie.{close}

@@ -1,0 +1,51 @@
+// The answer of a call on a sound table, compared with the map's and the second writing's.
+use images::memory::Image;
+use images::packing;
+use oracles::bounds;
+use oracles::outcomes;
+use plainmap::Said;
+use plainmap::lists::Lists;
+use reports::faults;
+use samples::calls::INSERT;
+use samples::calls::SEARCH;
+
+// Makes a search or an update on the map.
+pub fn on_map(map: &mut Lists, call: usize, label: &[u8], value: usize) -> Said {
+    match call {
+        SEARCH => plainmap::search(map, label),
+        INSERT => plainmap::insert(map, label, (value % 65536) as u16),
+        _ => plainmap::delete(map, label),
+    }
+}
+
+// The fault of an answer: beside the second writing's, the map's, and both bounds. A call refused by the map made a
+// search too.
+pub fn fault(found: &Image, call: usize, label: &[u8], said: usize, plain: Said) -> usize {
+    if said != outcomes::on_sound(found, call, label) {
+        return faults::ANSWER;
+    }
+    if said != as_map(call, said, plain) {
+        return faults::MAP;
+    }
+    let searched = outcomes::on_sound(found, SEARCH, label);
+    if bounds::hold(found, label.len(), searched) {
+        return 0;
+    }
+    faults::BOUNDS
+}
+
+// What the map said, with the counts of an answer.
+fn as_map(call: usize, said: usize, plain: Said) -> usize {
+    if plain.refusal > 0 {
+        return packing::refused(plain.refusal);
+    }
+    let visits = packing::visits(said);
+    let places = packing::places(said);
+    if call != SEARCH {
+        return packing::counted(packing::UPDATED, visits, places, plain.slot, 0);
+    }
+    if plain.slot == 0 {
+        return packing::counted(packing::ABSENT, visits, places, 0, 0);
+    }
+    packing::counted(packing::FOUND, visits, places, plain.slot, plain.value)
+}

@@ -1,0 +1,76 @@
+// A call on any memory, compared with the second writing.
+use audits::sound;
+use images::memory;
+use images::memory::Image;
+use images::packing;
+use oracles::outcomes;
+use reports::faults;
+use samples::calls::INSERT;
+use samples::calls::SEARCH;
+use std::num::wrapping_add_usize;
+
+// The fault of a call on a label, with a value or a slot: its answer, or what it left.
+pub fn fault(
+    found: &Image,
+    left: &Image,
+    call: usize,
+    label: &[u8],
+    number: usize,
+    said: usize,
+) -> usize {
+    let mut judged = *found;
+    if said != outcomes::judge(&mut judged, call, label, number) {
+        return faults::ANSWER;
+    }
+    if packing::kind(said) == packing::UPDATED {
+        return update_fault(found, left, call, label, inserted_as(said, number));
+    }
+    if memory::same(&judged, left) {
+        return 0;
+    }
+    faults::MEMORY
+}
+
+// A slot and a value, in one number.
+fn inserted_as(said: usize, value: usize) -> usize {
+    packing::counted(0, 0, 0, packing::one(said), value)
+}
+
+// The fault of what an update left that was not refused: a table that is not sound, or on which it is not done.
+fn update_fault(found: &Image, left: &Image, call: usize, label: &[u8], entry: usize) -> usize {
+    if !sound::is_sound(left) {
+        return faults::SOUND;
+    }
+    let before = memory::word(found, memory::HELD);
+    let after = memory::word(left, memory::HELD);
+    let met = outcomes::on_sound(left, SEARCH, label);
+    if call == INSERT {
+        return inserted_fault(entry, met, wrapping_add_usize(before, 1) == after);
+    }
+    deleted_fault(met, before == wrapping_add_usize(after, 1))
+}
+
+// One label more, which a search finds in the slot, with the value.
+fn inserted_fault(entry: usize, met: usize, one_more: bool) -> usize {
+    if !one_more {
+        return faults::HEAD;
+    }
+    if packing::kind(met) != packing::FOUND {
+        return faults::MEMORY;
+    }
+    if inserted_as(met, packing::other(met)) == entry {
+        return 0;
+    }
+    faults::MEMORY
+}
+
+// One label less, which a search does not find.
+fn deleted_fault(met: usize, one_less: bool) -> usize {
+    if !one_less {
+        return faults::HEAD;
+    }
+    if packing::kind(met) == packing::ABSENT {
+        return 0;
+    }
+    faults::MEMORY
+}

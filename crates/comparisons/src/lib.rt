@@ -1,0 +1,5 @@
+// What a call of the index said and left, compared with the plain map and with the second writing of the paper. No
+// function here makes a call.
+pub mod answers;
+pub mod judged;
+pub mod states;

@@ -1,0 +1,66 @@
+// What a call on a sound table left, compared with the map.
+use audits::sound;
+use images::memory;
+use images::memory::Image;
+use images::packing;
+use plainmap::lists::Lists;
+use reports::faults;
+
+// The fault of what a call left: other memory than it found, unless it updated; a table that is not sound; another head
+// than the map's.
+pub fn fault(found: &Image, left: &Image, map: &Lists, said: usize) -> usize {
+    if memory::same(found, left) == (packing::kind(said) == packing::UPDATED) {
+        return faults::MEMORY;
+    }
+    if !sound::is_sound(left) {
+        return faults::SOUND;
+    }
+    if head_agrees(left, map) {
+        return 0;
+    }
+    faults::HEAD
+}
+
+// The labels held, the high mark, and the slot freed last.
+fn head_agrees(image: &Image, map: &Lists) -> bool {
+    if memory::word(image, memory::HELD) != plainmap::held(map) {
+        return false;
+    }
+    if memory::word(image, memory::MARK) != plainmap::high(map) {
+        return false;
+    }
+    memory::word(image, memory::FREE) == plainmap::last_freed(map)
+}
+
+// A listing's count and words, the later ones, which stay, and the values of the slots listed.
+pub fn listing_agrees(image: &Image, map: &Lists, said: usize) -> bool {
+    if said != packing::plain(packing::LISTED, plainmap::held(map)) {
+        return false;
+    }
+    for i in 0..513usize {
+        if !listed(image, map, i) {
+            return false;
+        }
+    }
+    true
+}
+
+// Whether word `i` of the list is the slot of the map's label there, with its value, or has stayed.
+fn listed(image: &Image, map: &Lists, i: usize) -> bool {
+    let word = memory::entry(image, std::num::wrapping_add_usize(memory::LIST, i));
+    if i >= plainmap::held(map) {
+        return word == 65535;
+    }
+    if word != plainmap::slot_at(map, i) {
+        return false;
+    }
+    memory::field(image, word, memory::VALUE) == plainmap::value_of(map, word)
+}
+
+// Whether a label is the map's in a slot.
+pub fn spells(map: &Lists, slot: usize, label: &[u8]) -> bool {
+    if label.len() != plainmap::length_of(map, slot) {
+        return false;
+    }
+    plainmap::labels::difference(map, slot, label) == 0
+}
