@@ -10,6 +10,8 @@ use lib.Dec.{eqb}
 use Rattle.types.specs.declared.Row.{Row}
 use Rattle.turns.specs.declared.Rebuilt.{Rebuilt}
 use Rattle.sides.specs.Rows.{rowOn, putOn, linkedRow}
+use Rattle.sides.specs.Doubles.{doubleTurn}
+use Rattle.sides.proofs.Mirrors.{double-turn-mirrored}
 use Rattle.turns.specs.Turns.{outcome, withSon, turnOnce, turnTwice, turn, lean, grow, shrink}
 use Rattle.rotations.proofs.Fields.{Turns}
 
@@ -29,12 +31,21 @@ pub twice-is : (flip : Bool) (table : List ℕ) (c : ℕ) {parent son middle onc
     → Turns (not flip) son middle once below → Turns flip parent once up down
     → turnTwice flip table c ≡ outcome
     (putOn flip (putOn flip (putOn flip table (parent .left)
-    (linkedRow below (son .left) (middle .left) (cond (eqb (middle .balance) 2) 0 1)))
-    c (linkedRow down (middle .right) (parent .right) (cond (eqb (middle .balance) 0) 2 1)))
-    (son .right) (linkedRow up (parent .left) c 1)) (son .right) false
+    (linkedRow below (son .left) (middle .left) (doubleTurn (middle .balance) .lower)))
+    c (linkedRow down (middle .right) (parent .right) (doubleTurn (middle .balance) .upper)))
+    (son .right) (linkedRow up (parent .left) c (doubleTurn (middle .balance) .middle))) (son .right) false
 unfolding turnTwice
-twice-is flip table c of-parent of-son of-middle inner outer =
-    simp (of-parent, of-son, of-middle, inner .rise, inner .sink, outer .rise, outer .sink)
+twice-is flip table c {middle = middle} of-parent of-son of-middle inner outer =
+    simp (
+      of-parent,
+      of-son,
+      of-middle,
+      inner .rise,
+      inner .sink,
+      outer .rise,
+      outer .sink,
+      double-turn-mirrored flip (middle .balance),
+    )
 
 -- What `turn` computes, from the two rows read.
 pub turn-is : (flip : Bool) (table : List ℕ) (c : ℕ) {parent son : Row} → rowOn flip table c ≡ parent

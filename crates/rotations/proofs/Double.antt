@@ -3,7 +3,7 @@
 use mathlib.Core.Path.{_≡_, refl, sym, _∙_}
 use mathlib.Core.List.{List}
 use mathlib.Core.Bool.{Bool}
-use Prim.Native.Nat.{ℕ, _+_, max}
+use Prim.Native.Nat.{ℕ, suc, _+_, max}
 use native.Mathlib.Omega.{arith}
 use lib.Dec.{eqb}
 use Rattle.types.specs.declared.Row.{Row}
@@ -17,14 +17,14 @@ use Rattle.words.specs.Rows.{HasRow}
 use Rattle.sides.specs.Rows.{putOn}
 use Rattle.turns.specs.Turns.{outcome}
 use Rattle.rotations.proofs.Rep.{Rep, Once, Refines, flipOn, lowOn, highOn, RepOn}
-use Rattle.rotations.proofs.Flips.{Leans, even}
+use Rattle.rotations.proofs.Flips.{Leans}
 use Rattle.rotations.proofs.Frames.{own-slot, other-slot, frame-wider, has-framed, rep-framed}
 use Rattle.rotations.proofs.Nodes.{Standing, rep-from, occurrences-from, link-from}
 use Rattle.rotations.proofs.Prefix.{rowOf}
 use Rattle.rotations.proofs.Stores.{ThreeStored, three-stored}
 use Rattle.rotations.proofs.Windows.{rep-outwards, rep-inwards, rep-parted-near, rep-parted-far, row-bare}
 
--- the rows of y, e and w after the rotation, with these balances of y and e
+-- the rows of y, e and w after the rotation, with these balances
 abbrev pub outerRow : Side → Neighbour → Neighbour → Tree → Entry → Tree → Entry → ℕ → Row
 outerRow s p q outer y i w out = rowOf (lowOn s p (w .label)) (linkOf outer) (linkOf i) out y (highOn s (w .label) q)
 
@@ -32,8 +32,8 @@ abbrev pub innerRow : Side → Neighbour → Neighbour → Entry → Tree → En
 innerRow s p q w j e short down =
     rowOf (lowOn (other s) p (w .label)) (linkOf j) (linkOf short) down e (highOn (other s) (w .label) q)
 
-abbrev pub topRow : Neighbour → Neighbour → Entry → Entry → Entry → Row
-topRow p q y w e = rowOf p (y .slot) (e .slot) 1 w q
+abbrev pub topRow : Neighbour → Neighbour → Entry → Entry → Entry → ℕ → Row
+topRow p q y w e top = rowOf p (y .slot) (e .slot) top w q
 
 -- e over its son y on the side s; y has the subtree outer and the inner son w over i and j; e has the other son short
 module _ (s : Side) (table : List ℕ) (p q : Neighbour) (outer : Tree) (y : Entry) (i : Tree) (w : Entry) (j : Tree)
@@ -56,8 +56,9 @@ module _ (s : Side) (table : List ℕ) (p q : Neighbour) (outer : Tree) (y : Ent
         occurrences-from s k i w j,
       )
 
-  module _ {after : List ℕ} {out down : ℕ} (stored : ThreeStored (flipOn s) table after (y .slot)
-      (outerRow s p q outer y i w out) (e .slot) (innerRow s p q w j e short down) (w .slot) (topRow p q y w e)) where
+  module _ {after : List ℕ} {out top down : ℕ} (stored : ThreeStored (flipOn s) table after
+      (y .slot) (outerRow s p q outer y i w out) (e .slot) (innerRow s p q w j e short down)
+      (w .slot) (topRow p q y w e top)) where
     -- The son stands below the node that rose.
     outer-sunk : Leans (height outer) (height i) out
         → Rep after (lowOn s p (w .label)) (highOn s (w .label) q) (from s outer y i)
@@ -90,15 +91,16 @@ module _ (s : Side) (table : List ℕ) (p q : Neighbour) (outer : Tree) (y : Ent
         })
 
     -- The node that rose stands above both, and only slots of the tree are touched.
-    risen : (tall : Bool) → Leans (height outer) (height i) out → Leans (height j) (height short) down
-        → max (height outer) (height i) ≡ max (height j) (height short)
+    risen : (tall : Bool) → Leans (height outer) (height i) out
+        → Leans (suc (max (height outer) (height i))) (suc (max (height j) (height short))) top
+        → Leans (height j) (height short) down
         → Refines table p q (from s (from s outer y i) w (from s j e short)) tall
         (slots (from s (from s outer y (from s i w j)) e short)) (outcome after (w .slot) tall)
-    risen tall out-lean down-lean level =
+    risen tall out-lean top-lean down-lean =
         let near = from s outer y i in
         let far = from s j e short in
-        let lean : Leans (height near) (height far) 1 =
-        even (omega (arith, height-from s outer y i, height-from s j e short)) in
+        let lean : Leans (height near) (height far) top =
+        rw (height-from s outer y i, height-from s j e short) top-lean in
         record {
           link = sym (link-from s near w far);
           height = refl;
@@ -114,18 +116,18 @@ module _ (s : Side) (table : List ℕ) (p q : Neighbour) (outer : Tree) (y : Ent
         }
 
   -- A double rotation represents the turned tree, and touches only its slots.
-  pub twice-refines : (out down : ℕ) (tall : Bool)
-      → Leans (height outer) (height i) out → Leans (height j) (height short) down
-      → max (height outer) (height i) ≡ max (height j) (height short)
+  pub twice-refines : (out top down : ℕ) (tall : Bool) → Leans (height outer) (height i) out
+      → Leans (suc (max (height outer) (height i))) (suc (max (height j) (height short))) top
+      → Leans (height j) (height short) down
       → Refines table p q (from s (from s outer y i) w (from s j e short)) tall
       (slots (from s (from s outer y (from s i w j)) e short))
       (outcome (putOn (flipOn s) (putOn (flipOn s) (putOn (flipOn s) table
       (y .slot) (outerRow s p q outer y i w out)) (e .slot) (innerRow s p q w j e short down))
-      (w .slot) (topRow p q y w e)) (w .slot) tall)
-  twice-refines out down =
+      (w .slot) (topRow p q y w e top)) (w .slot) tall)
+  twice-refines out top down =
       risen (three-stored (flipOn s) table (y .slot) (outerRow s p q outer y i w out)
       (e .slot) (innerRow s p q w j e short down) y-has e-has
       (other-slot (y .slot) (e .slot) (omega (arith, once (y .slot), counts (y .slot), own-slot (y .slot))))
-      (w .slot) (topRow p q y w e) (middle .has)
+      (w .slot) (topRow p q y w e top) (middle .has)
       (other-slot (y .slot) (w .slot) (omega (arith, once (y .slot), counts (y .slot), own-slot (y .slot))))
       (other-slot (e .slot) (w .slot) (omega (arith, once (e .slot), counts (e .slot), own-slot (e .slot)))))

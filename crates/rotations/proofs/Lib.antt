@@ -10,6 +10,7 @@ pub mod Stores
 pub mod Single
 pub mod Double
 pub mod Tops
+pub mod DoubleTurns
 pub mod Turning
 pub mod Leaning
 pub mod Mirrored

@@ -1,6 +1,6 @@
 -- What `rebalanced` makes of a node, seen from a side, and the balances that a rotation leaves.
 -- `top-level`, `top-once`, `top-twice`: the node stays, is rotated once, or twice.
--- `once-balances`, `twice-balances`: the balances after a rotation, from the balance of the son or of its inner son.
+-- `once-balances`, `twice-balances`: the balances after a rotation, from the balance of the son or of the middle node.
 use mathlib.Core.Path.{_≡_}
 use mathlib.Core.Bool.{cond}
 use Prim.Native.Nat.{ℕ, suc, _≤_, _<_, max}
@@ -9,6 +9,7 @@ use lib.Dec.{eqb, ltb}
 use borrow.Author.Tests.{lt-ltb, le-ltb}
 use Rattle.trees.specs.Trees.{Entry, Tree, node, Side, left, right, from}
 use Rattle.trees.specs.Heights.{height}
+use Rattle.sides.specs.Doubles.{doubleTurn}
 use Rattle.rotations.proofs.Rep.{topOn}
 use Rattle.rotations.proofs.Flips.{Leans, to-near, even, to-far}
 
@@ -62,9 +63,14 @@ once-balances outer inner short (even h) lean fits tall =
     (to-near (omega arith), to-far (omega arith), lt-ltb (suc (suc short)) top (omega arith))
 once-balances outer inner short (to-far h) lean fits tall = absurd (omega arith)
 
--- The balances after a double rotation, of the son and of the node, from the balance of the one that rose.
-pub twice-balances : (outer i j short : ℕ) {b : ℕ} → Leans i j b → i ≤ suc j → j ≤ suc i → outer ≡ short
-    → max i j ≡ short → Leans outer i (cond (eqb b 2) 0 1) × Leans j short (cond (eqb b 0) 2 1)
-twice-balances outer i j short (to-near h) fits fits′ level tall = (even (omega arith), to-far (omega arith))
-twice-balances outer i j short (even h) fits fits′ level tall = (even (omega arith), even (omega arith))
-twice-balances outer i j short (to-far h) fits fits′ level tall = (to-near (omega arith), even (omega arith))
+-- The balances after a double rotation, from the old balance of the middle node: of the lower node over a and b, of the
+-- middle one, and of the upper one over c and d.
+pub twice-balances : (a b c d : ℕ) {middle : ℕ} → Leans b c middle → b ≤ suc c → c ≤ suc b → a ≡ d → max b c ≡ d
+    → Leans a b (doubleTurn middle .lower) × Leans (suc (max a b)) (suc (max c d)) (doubleTurn middle .middle)
+    × Leans c d (doubleTurn middle .upper)
+twice-balances a b c d (to-near h) fits fits′ level tall =
+    (even (omega arith), even (omega arith), to-far (omega arith))
+twice-balances a b c d (even h) fits fits′ level tall =
+    (even (omega arith), even (omega arith), even (omega arith))
+twice-balances a b c d (to-far h) fits fits′ level tall =
+    (to-near (omega arith), even (omega arith), even (omega arith))

@@ -20,6 +20,7 @@ use Rattle.tables.specs.Prefix.{balanceOf}
 use Rattle.tables.specs.Written.{linkOf}
 use Rattle.words.specs.Rows.{HasRow}
 use Rattle.sides.specs.Rows.{rowOn}
+use Rattle.sides.specs.Doubles.{doubleTurn}
 use Rattle.turns.specs.Turns.{Turned, turnOnce, turnTwice, turn}
 use Rattle.rotations.proofs.Rep.{Once, Refines, flipOn, lowOn, highOn, RepOn, topOn}
 use Rattle.rotations.proofs.Flips.{Leans, to-near, even, to-far, leans, balance-is}
@@ -120,7 +121,8 @@ module _ (s : Side) (table : List ℕ) (p q : Neighbour) (outer : Tree) (y : Ent
       (omega arith) (ap height top ∙ omega arith)
       (le-ltb (suc (suc (height short))) (suc (suc (height short))) (omega arith)))
       (twice-refines s table p q outer y i w j e short (stale .once) (stale .has) (son .has) (son .near-rep) middle
-      (stale .far-rep) (cond (eqb b 2) 0 1) (cond (eqb b 0) 2 1) false (balances .0) (balances .1) (omega arith))
+      (stale .far-rep) (doubleTurn b .lower) (doubleTurn b .middle) (doubleTurn b .upper) false
+      (balances .0) (balances .1) (balances .2))
     where
       son-balance : ℕ
       son-balance = balanceOf (height outer) (height (from s i w j))

@@ -1,20 +1,23 @@
 // The rows that a rotation stores, by the rows that it reads. `c` is the subtree's root; in every row the near son is
-// on the left.
-use crate::Balances;
+// on the left, so of the three nodes of a double rotation the near son is the lower one here, and c the upper one.
+use crate::doubles;
 use crate::rows;
+use crate::rows::EVEN;
+use crate::rows::LEFT_TALLER;
+use crate::rows::RIGHT_TALLER;
 use types::Row;
 ghost use mathlib.Core.Path.{_≡_};
-ghost use Rattle.sides.specs.Rotated.{lowOnce, highOnce, balancesOf, outerTwice, innerTwice, topTwice};
+ghost use Rattle.sides.specs.Rotated.{lowOnce, highOnce, outerTwice, innerTwice, topTwice};
 
 // The row of c below its near son, after one rotation.
 pub fn low_once(flip: bool, parent: Row, son: Row) -> Row
     ensures { λ r. ⌜ r ≡ lowOnce flip parent son ⌝ }
 {
     let low = rows::lowered(flip, parent, son);
-    if son.balance == 1 {
-        rows::linked_row(low, son.right, parent.right, 0)
+    if son.balance == EVEN {
+        rows::linked_row(low, son.right, parent.right, LEFT_TALLER)
     } else {
-        rows::linked_row(low, son.right, parent.right, 1)
+        rows::linked_row(low, son.right, parent.right, EVEN)
     }
 }
 
@@ -23,35 +26,10 @@ pub fn high_once(flip: bool, c: u16, parent: Row, son: Row) -> Row
     ensures { λ r. ⌜ r ≡ highOnce flip c parent son ⌝ }
 {
     let high = rows::raised(flip, parent, son);
-    if son.balance == 1 {
-        rows::linked_row(high, son.left, c, 2)
+    if son.balance == EVEN {
+        rows::linked_row(high, son.left, c, RIGHT_TALLER)
     } else {
-        rows::linked_row(high, son.left, c, 1)
-    }
-}
-
-// The balances after a double rotation, by the old balance of the node that rises.
-pub fn balances(middle: u16) -> Balances
-    ensures { λ r. ⌜ r ≡ balancesOf middle ⌝ }
-{
-    if middle == 0 {
-        return Balances {
-            outer: 1,
-            inner: 2,
-            top: 1,
-        };
-    }
-    if middle == 2 {
-        return Balances {
-            outer: 0,
-            inner: 1,
-            top: 1,
-        };
-    }
-    Balances {
-        outer: 1,
-        inner: 1,
-        top: 1,
+        rows::linked_row(high, son.left, c, EVEN)
     }
 }
 
@@ -59,12 +37,12 @@ pub fn balances(middle: u16) -> Balances
 pub fn outer_twice(flip: bool, son: Row, middle: Row) -> Row
     ensures { λ r. ⌜ r ≡ outerTwice flip son middle ⌝ }
 {
-    let now = balances(middle.balance);
+    let now = doubles::double_turn(middle.balance);
     rows::linked_row(
         rows::lowered(!flip, son, middle),
         son.left,
         middle.left,
-        now.outer,
+        now.lower,
     )
 }
 
@@ -72,13 +50,13 @@ pub fn outer_twice(flip: bool, son: Row, middle: Row) -> Row
 pub fn inner_twice(flip: bool, parent: Row, son: Row, middle: Row) -> Row
     ensures { λ r. ⌜ r ≡ innerTwice flip parent son middle ⌝ }
 {
-    let now = balances(middle.balance);
+    let now = doubles::double_turn(middle.balance);
     let once = rows::raised(!flip, son, middle);
     rows::linked_row(
         rows::lowered(flip, parent, once),
         middle.right,
         parent.right,
-        now.inner,
+        now.upper,
     )
 }
 
@@ -86,7 +64,7 @@ pub fn inner_twice(flip: bool, parent: Row, son: Row, middle: Row) -> Row
 pub fn top_twice(flip: bool, c: u16, parent: Row, son: Row, middle: Row) -> Row
     ensures { λ r. ⌜ r ≡ topTwice flip c parent son middle ⌝ }
 {
-    let now = balances(middle.balance);
+    let now = doubles::double_turn(middle.balance);
     let once = rows::raised(!flip, son, middle);
-    rows::linked_row(rows::raised(flip, parent, once), parent.left, c, now.top)
+    rows::linked_row(rows::raised(flip, parent, once), parent.left, c, now.middle)
 }

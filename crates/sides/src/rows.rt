@@ -4,15 +4,22 @@ ghost use mathlib.Core.Path.{_≡_};
 ghost use Rattle.sides.specs.Rows.{mirrored, flipped, rowOn, putOn, linkedRow, prefixed};
 ghost use Rattle.sides.specs.Rows.{toParent, exchanges, raised, lowered};
 
+// The word of a balance.
+pub const LEFT_TALLER: u16 = 0;
+
+pub const EVEN: u16 = 1;
+
+pub const RIGHT_TALLER: u16 = 2;
+
 // A balance seen from the other side.
 pub fn mirrored(balance: u16) -> u16
     ensures { λ r. ⌜ r ≡ mirrored balance ⌝ }
 {
-    if balance == 0 {
-        return 2;
+    if balance == LEFT_TALLER {
+        return RIGHT_TALLER;
     }
-    if balance == 2 {
-        return 0;
+    if balance == RIGHT_TALLER {
+        return LEFT_TALLER;
     }
     balance
 }

@@ -2,6 +2,9 @@
 use crate::Rebuilt;
 use sides::rotated;
 use sides::rows;
+use sides::rows::EVEN;
+use sides::rows::LEFT_TALLER;
+use sides::rows::RIGHT_TALLER;
 use types::Row;
 ghost use mathlib.Core.Path.{_≡_};
 ghost use Rattle.turns.specs.Turns.{Yields, withSon, turnOnce, putTwice, turnTwice, turn, lean, grow, shrink};
@@ -34,7 +37,7 @@ pub fn turn_once(table: &mut [u16], flip: bool, c: u16) -> Rebuilt
     );
     Rebuilt {
         link: parent.left,
-        tall: son.balance == 1,
+        tall: son.balance == EVEN,
     }
 }
 
@@ -82,7 +85,7 @@ pub fn turn(table: &mut [u16], flip: bool, c: u16) -> Rebuilt
 {
     let parent = rows::row_on(table, flip, c);
     let son = rows::row_on(table, flip, parent.left);
-    if son.balance == 2 {
+    if son.balance == RIGHT_TALLER {
         turn_twice(table, flip, c)
     } else {
         turn_once(table, flip, c)
@@ -94,24 +97,24 @@ pub fn lean(table: &mut [u16], flip: bool, c: u16) -> Rebuilt
     ensures { λ r. ⌜ Yields (lean flip (now (table .entry)) c) (now (table .exit)) r ⌝ }
 {
     let row = rows::row_on(table, flip, c);
-    if row.balance == 2 {
+    if row.balance == RIGHT_TALLER {
         rows::put_on(
             table,
             flip,
             c,
-            rows::linked_row(row, row.left, row.right, 1),
+            rows::linked_row(row, row.left, row.right, EVEN),
         );
         return Rebuilt {
             link: c,
             tall: false,
         };
     }
-    if row.balance == 1 {
+    if row.balance == EVEN {
         rows::put_on(
             table,
             flip,
             c,
-            rows::linked_row(row, row.left, row.right, 0),
+            rows::linked_row(row, row.left, row.right, LEFT_TALLER),
         );
         return Rebuilt {
             link: c,

@@ -1,10 +1,11 @@
 -- `sides::rotated::inner_twice` meets its contract. The row made is that of the definition.
 use borrow.Author.Needs.{needs}
+use Rattle.sides.proofs.Mirrors.{double-turn-mirrored}
 use Rattle.sides.proofs.rotated.inner_twice.Statement.{statement}
 use Rattle.sides.proofs.rotated.inner_twice.Tie as tie
 
-balances-requires : tie.Need-balances-requires
-balances-requires c κs = search needs
+double-turn-requires : tie.Need-double-turn-requires
+double-turn-requires c κs = search needs
 
 raised-requires : tie.Need-raised-requires
 raised-requires c κs = search needs
@@ -18,10 +19,11 @@ linked-row-requires c κs = search needs
 returns : tie.Need-returns
 returns c =
     let once = c .before .before in
-    simp (c .before .lowered .ensures, once .raised .ensures, once .before .balances .ensures)
-    at (c .linked-row .ensures)
+    simp double-turn-mirrored
+    (simp (c .before .lowered .ensures, once .raised .ensures, once .before .double-turn .ensures)
+    at (c .linked-row .ensures))
 
 pub inner-twice-spec : {M : Type 1} → statement M
 inner-twice-spec =
     tie.close
-    (tie.spec balances-requires raised-requires lowered-requires linked-row-requires returns)
+    (tie.spec double-turn-requires raised-requires lowered-requires linked-row-requires returns)
