@@ -1,7 +1,7 @@
 -- Balances after a double rotation (M-102 of document 02), in label order: those of the lower, the middle and the upper
 -- of its three nodes.
 use mathlib.Core.Path.{_≡_}
-use mathlib.Core.Bool.{cond}
+use mathlib.Core.Bool.{not, cond}
 use Prim.Native.Nat.{ℕ, suc, _≤_, _<_}
 use lib.Dec.{eqb}
 use Rattle.trees.specs.Trees.{Entry, Tree, empty, node, Side, left, right, other, on}
@@ -18,10 +18,13 @@ balances lower middle upper = record { lower = lower; middle = middle; upper = u
 --
 --   middle before     lower           middle   upper
 --   0 left taller     1 even          1 even   2 right taller
---   2 right taller    0 left taller   1 even   1 even
 --   1 even            1 even          1 even   1 even
+--   2 right taller    0 left taller   1 even   1 even
 abbrev pub doubleTurn : ℕ → Balances
-doubleTurn middle = cond (eqb middle 0) (balances 1 1 2) (cond (eqb middle 2) (balances 0 1 1) (balances 1 1 1))
+doubleTurn middle =
+    cond (eqb middle 0) (balances 1 1 2)
+    (cond (not (eqb middle 2)) (balances 1 1 1)
+    (balances 0 1 1))
 
 -- the balance that the heights give at a tree's root, and those at its left son, its root and its right son
 abbrev pub balanceAt : Tree → ℕ

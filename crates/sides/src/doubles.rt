@@ -11,8 +11,8 @@ ghost use Rattle.sides.specs.Doubles.{balances, doubleTurn};
 //   middle before | lower         middle   upper
 //   --------------+------------------------------------
 //   left taller   | even          even     right taller
-//   right taller  | left taller   even     even
 //   even          | even          even     even
+//   right taller  | left taller   even     even
 //
 // The table is its own mirror image: seen from the right side, the nodes in the other order and each balance mirrored,
 // it is the same. A balance above 2 counts as even.
@@ -21,8 +21,8 @@ pub fn double_turn(middle: u16) -> Balances
 {
     match middle {
         LEFT_TALLER => balances(EVEN, EVEN, RIGHT_TALLER),
+        EVEN | 3.. => balances(EVEN, EVEN, EVEN),
         RIGHT_TALLER => balances(LEFT_TALLER, EVEN, EVEN),
-        _ => balances(EVEN, EVEN, EVEN),
     }
 }
 
