@@ -5,18 +5,20 @@ enum { CHANGED_BITS = 4000 };
 
 static void compare_search(const struct workload *w, const uint8_t *x, size_t n)
 {
-    uint64_t said = strap_search(w->table, WORDS, w->store, BYTES, x, n);
+    const struct index *index = w->index;
+    uint64_t said = index->search(w->table, index->words, w->store, index->bytes, x, n);
     uint64_t value = strap_kind_of(said) == STRAP_FOUND ? (uint64_t)strap_value_of(said) + 1 : 0;
-    uint64_t whole = whole_counts(w->table, w->store, x, n);
+    uint64_t whole = index->whole_counts(w->table, w->store, x, n);
     if (strap_kind_of(said) == STRAP_REFUSED)
         fail("a search was refused");
-    if (said != digital_search(w->table, WORDS, w->store, BYTES, x, n))
+    if (said != index->digital_search(w->table, index->words, w->store, index->bytes, x, n))
         fail("the C of the same method answers otherwise");
     if (strap_kind_of(whole) != strap_kind_of(said) || strap_visits_of(whole) != strap_visits_of(said) ||
         strap_places_of(whole) < strap_places_of(said))
         fail("the search with whole labels goes another way");
-    if (value != whole_search(w->table, w->store, x, n) || value != array_search(w->entries, w->labels.count, x, n) ||
-        value != map_search(w->map, x, n) || value != btree_search(w->btree, x, n))
+    if (value != index->whole_search(w->table, w->store, x, n) ||
+        value != array_search(w->entries, w->labels.count, x, n) || value != map_search(w->map, x, n) ||
+        value != btree_search(w->btree, x, n))
         fail("the contestants' answers differ");
 }
 
@@ -31,8 +33,8 @@ struct bit {
 static struct bit any_bit(const struct workload *w)
 {
     bool in_table = below(2) == 0, anywhere = below(4) == 0;
-    size_t slots = anywhere ? SLOTS : w->labels.count;
-    size_t at = below(in_table ? 4 + 8 * slots : WIDTH * slots);
+    size_t slots = anywhere ? w->index->slots : w->labels.count;
+    size_t at = below(in_table ? 4 + 8 * slots : w->index->width * slots);
     return (struct bit){in_table, at, 1u << below(in_table ? 16 : 8)};
 }
 
@@ -47,29 +49,33 @@ static void flip(struct workload *w, struct bit b)
 /* The two soundness tests, and the two searches. */
 static void compare_changed(struct workload *w, const uint8_t *x, size_t n)
 {
+    const struct index *index = w->index;
+    size_t words = index->words, bytes = index->bytes;
     struct bit b = any_bit(w);
     flip(w, b);
-    if (strap_check(w->table, WORDS, w->store, BYTES) != sound_check(w->table, WORDS, w->store, BYTES))
+    if (index->check(w->table, words, w->store, bytes) != index->sound_check(w->table, words, w->store, bytes))
         fail("the soundness tests differ");
-    if (strap_search(w->table, WORDS, w->store, BYTES, x, n) != digital_search(w->table, WORDS, w->store, BYTES, x, n))
+    if (index->search(w->table, words, w->store, bytes, x, n) !=
+        index->digital_search(w->table, words, w->store, bytes, x, n))
         fail("the searches differ on broken memory");
     flip(w, b);
 }
 
 /* ---- updates */
 
-static void see_sound(const uint16_t *table, const uint8_t *store)
+static void see_sound(const struct index *index, const uint16_t *table, const uint8_t *store)
 {
     uint64_t done = pack(STRAP_DONE, 0, 0, 0, 0);
-    if (strap_check(table, WORDS, store, BYTES) != done || sound_check(table, WORDS, store, BYTES) != done)
+    if (index->check(table, index->words, store, index->bytes) != done ||
+        index->sound_check(table, index->words, store, index->bytes) != done)
         fail("a table is not sound");
 }
 
 static void compare_update(const struct update *u)
 {
     update(u);
-    see_sound(u->table, u->store);
-    if (whole_search(u->table, u->store, u->label, u->n) != (u->inserts ? (uint64_t)u->value + 1 : 0))
+    see_sound(u->index, u->table, u->store);
+    if (u->index->whole_search(u->table, u->store, u->label, u->n) != (u->inserts ? (uint64_t)u->value + 1 : 0))
         fail("an update left another answer");
 }
 
@@ -81,7 +87,7 @@ void compare_answers(void)
             compare_search(w, w->queries.at[i].bytes, w->queries.at[i].len);
         for (size_t i = 0; i < CHANGED_BITS; i++)
             compare_changed(w, w->queries.at[i % QUERIES].bytes, w->queries.at[i % QUERIES].len);
-        see_sound(w->table, w->store);
+        see_sound(w->index, w->table, w->store);
         if (has_updates(w))
             each_update(w, compare_update);
     }

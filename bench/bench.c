@@ -3,7 +3,7 @@
  *   bench answers     compares every contestant's answers with the others'
  *   bench workloads   names, visits and places of every workload
  *   bench count       instructions: run it under callgrind, which dumps once for each number
- *   bench time        nanoseconds for a call on the nine workloads, over many rounds in turn
+ *   bench time        nanoseconds for a call on the named workloads, over many rounds in turn
  */
 #include "contestants.h"
 #include <string.h>

@@ -4,7 +4,18 @@
 
 #include "strap_index.h"
 
-enum { SLOTS = STRAP_SLOTS, WIDTH = STRAP_WIDTH, DEPTH = 12, WORDS = STRAP_WORDS, BYTES = STRAP_BYTES };
+/* The sizes are the hub's. Files built with PAGE too have the pairing page's then, and what they define the prefix. */
+#ifdef PAGE
+enum { SLOTS = STRAP_PAGE_SLOTS, WIDTH = STRAP_PAGE_WIDTH, DEPTH = 6 };
+enum { WORDS = STRAP_PAGE_WORDS, BYTES = STRAP_PAGE_BYTES };
+#define digital_search page_digital_search
+#define sound_check page_sound_check
+#define whole_search page_whole_search
+#define whole_counts page_whole_counts
+#else
+enum { SLOTS = STRAP_SLOTS, WIDTH = STRAP_WIDTH, DEPTH = 12 };
+enum { WORDS = STRAP_WORDS, BYTES = STRAP_BYTES };
+#endif
 
 /* An answer as the index packs it. */
 static inline uint64_t pack(enum strap_kind kind, uint64_t places, uint64_t visits, uint64_t one, uint64_t other)
@@ -18,16 +29,19 @@ static inline uint64_t pack(enum strap_kind kind, uint64_t places, uint64_t visi
 extern "C" {
 #endif
 
+typedef uint64_t search_call(const uint16_t *table, size_t words, const uint8_t *store, size_t bytes,
+                             const uint8_t *label, size_t n);
+typedef uint64_t check_call(const uint16_t *table, size_t words, const uint8_t *store, size_t bytes);
+typedef uint64_t whole_call(const uint16_t *table, const uint8_t *store, const uint8_t *label, size_t n);
+
 /* digital.c: the same search in plain C, over the same words and bytes */
-uint64_t digital_search(const uint16_t *table, size_t words, const uint8_t *store, size_t bytes, const uint8_t *label,
-                        size_t n);
+search_call digital_search, page_digital_search;
 
 /* sound.c: the soundness test in plain C */
-uint64_t sound_check(const uint16_t *table, size_t words, const uint8_t *store, size_t bytes);
+check_call sound_check, page_sound_check;
 
 /* whole.c: the same tree, whole labels compared by memcmp; and the places and visits of that search */
-uint64_t whole_search(const uint16_t *table, const uint8_t *store, const uint8_t *label, size_t n);
-uint64_t whole_counts(const uint16_t *table, const uint8_t *store, const uint8_t *label, size_t n);
+whole_call whole_search, page_whole_search, whole_counts, page_whole_counts;
 
 /* array.c: a sorted array, searched by halves with memcmp */
 struct entry {

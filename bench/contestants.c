@@ -16,19 +16,28 @@ volatile uint64_t kept;
     }
 
 LOOP(loop_nothing, nothing(x, n))
-LOOP(loop_index, strap_search(w->table, WORDS, w->store, BYTES, x, n))
-LOOP(loop_digital, digital_search(w->table, WORDS, w->store, BYTES, x, n))
+LOOP(loop_index, strap_search(w->table, STRAP_WORDS, w->store, STRAP_BYTES, x, n))
+LOOP(loop_index_of_page, strap_page_search(w->table, STRAP_PAGE_WORDS, w->store, STRAP_PAGE_BYTES, x, n))
+LOOP(loop_digital, digital_search(w->table, STRAP_WORDS, w->store, STRAP_BYTES, x, n))
+LOOP(loop_digital_of_page, page_digital_search(w->table, STRAP_PAGE_WORDS, w->store, STRAP_PAGE_BYTES, x, n))
 LOOP(loop_whole, whole_search(w->table, w->store, x, n))
+LOOP(loop_whole_of_page, page_whole_search(w->table, w->store, x, n))
 LOOP(loop_array, array_search(w->entries, w->labels.count, x, n))
 LOOP(loop_map, map_search(w->map, x, n))
 LOOP(loop_btree, btree_search(w->btree, x, n))
 
 const struct contestant contestant[CONTESTANTS] = {
-    {"nothing", loop_nothing},
-    {"index", loop_index},
-    {"C, same method", loop_digital},
-    {"AVL, whole labels", loop_whole},
-    {"sorted array", loop_array},
-    {"std::map", loop_map},
-    {"BTreeMap", loop_btree},
+    {"nothing", loop_nothing, loop_nothing},
+    {"index", loop_index, loop_index_of_page},
+    {"C, same method", loop_digital, loop_digital_of_page},
+    {"AVL, whole labels", loop_whole, loop_whole_of_page},
+    {"sorted array", loop_array, loop_array},
+    {"std::map", loop_map, loop_map},
+    {"BTreeMap", loop_btree, loop_btree},
 };
+
+uint64_t loop(int number, const struct workload *w)
+{
+    const struct contestant *c = contestant + number;
+    return w->index == &page ? c->page_loop(w) : c->hub_loop(w);
+}

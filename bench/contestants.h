@@ -7,10 +7,14 @@
 /* The first is the loop with a call that does nothing. */
 enum { NOTHING, INDEX, CONTESTANTS = 7 };
 
+/* A contestant's loop over a workload of the hub, and over one of the page. */
 extern const struct contestant {
     const char *name;
-    uint64_t (*loop)(const struct workload *);
+    uint64_t (*hub_loop)(const struct workload *);
+    uint64_t (*page_loop)(const struct workload *);
 } contestant[CONTESTANTS];
+
+uint64_t loop(int number, const struct workload *w);
 
 /* Takes what the loops give, so that none of them is left out. */
 extern volatile uint64_t kept;
@@ -23,6 +27,7 @@ struct update {
     const uint8_t *label;
     size_t n;
     uint16_t value;
+    const struct index *index;
     uint16_t *table;
     uint8_t *store;
 };

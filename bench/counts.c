@@ -14,14 +14,15 @@ void print_workloads(void)
         for (size_t i = 0; i < QUERIES; i++) {
             const uint8_t *x = w->queries.at[i].bytes;
             size_t n = w->queries.at[i].len;
-            uint64_t said = strap_search(w->table, WORDS, w->store, BYTES, x, n);
+            uint64_t said = w->index->search(w->table, w->index->words, w->store, w->index->bytes, x, n);
             visits += strap_visits_of(said);
             digital += strap_places_of(said);
-            whole += strap_places_of(whole_counts(w->table, w->store, x, n));
+            whole += strap_places_of(w->index->whole_counts(w->table, w->store, x, n));
         }
         printf("%d\tseries\t%s\n%d\tname\t%s\n", number, w->series, number, w->name);
         if (w->table_name != NULL)
-            printf("%d\tseries\ttables\n%d\ttable\t%s\n", number, number, w->table_name);
+            printf("%d\tseries\t%stables\n%d\ttable\t%s\n", number, w->index == &page ? "page " : "", number,
+                   w->table_name);
         printf("%d\tvisits\t%f\n", number, visits / QUERIES);
         printf("%d\tplaces, index\t%f\n", number, digital / QUERIES);
         printf("%d\tplaces, whole labels\t%f\n", number, whole / QUERIES);
@@ -47,16 +48,17 @@ static void dump(int number, const char *what, int calls)
 static void count_searches(int number, const struct workload *w)
 {
     for (int c = 0; c < CONTESTANTS; c++) {
-        COUNTED(kept = kept + contestant[c].loop(w));
+        COUNTED(kept = kept + loop(c, w));
         dump(number, contestant[c].name, QUERIES);
     }
 }
 
 static void count_tests(int number, const struct workload *w)
 {
-    COUNTED(kept = kept + strap_check(w->table, WORDS, w->store, BYTES));
+    const struct index *index = w->index;
+    COUNTED(kept = kept + index->check(w->table, index->words, w->store, index->bytes));
     dump(number, "check", 1);
-    COUNTED(kept = kept + sound_check(w->table, WORDS, w->store, BYTES));
+    COUNTED(kept = kept + index->sound_check(w->table, index->words, w->store, index->bytes));
     dump(number, "C test", 1);
 }
 
@@ -64,7 +66,7 @@ static void count_tests(int number, const struct workload *w)
 struct counted {
     const char *name;
     bool inserts;
-    uint64_t (*test)(const uint16_t *table, size_t words, const uint8_t *store, size_t bytes);
+    check_call *test;
 };
 
 static const struct counted *counted;
@@ -73,7 +75,7 @@ static void count_update(const struct update *u)
 {
     bool now = u->inserts == counted->inserts;
     if (now && counted->test != NULL)
-        COUNTED(kept = kept + counted->test(u->table, WORDS, u->store, BYTES));
+        COUNTED(kept = kept + counted->test(u->table, u->index->words, u->store, u->index->bytes));
     if (now && counted->test == NULL)
         COUNTED(update(u));
     else
@@ -82,13 +84,13 @@ static void count_update(const struct update *u)
 
 static void count_updates(int number, const struct workload *w)
 {
-    static const struct counted all[] = {
+    const struct counted all[] = {
         {"delete", false, NULL},
-        {"check before delete", false, strap_check},
-        {"C test before delete", false, sound_check},
+        {"check before delete", false, w->index->check},
+        {"C test before delete", false, w->index->sound_check},
         {"insert", true, NULL},
-        {"check before insert", true, strap_check},
-        {"C test before insert", true, sound_check},
+        {"check before insert", true, w->index->check},
+        {"C test before insert", true, w->index->sound_check},
     };
     for (counted = all; counted < all + sizeof all / sizeof *all; counted++) {
         each_update(w, count_update);

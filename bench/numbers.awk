@@ -15,11 +15,13 @@ function less(w, what, base,   v) {
     return v
 }
 
+function compare(w, what, against) { figure[w, what " ratio"] = get(w, what) / get(w, against) }
+
 # A bar: a figure is at most `factor` times another, plus `more`.
 function bar(w, what, against, factor, more,   limit) {
     limit = factor * get(w, against) + more
     figure[w, what " limit"] = limit
-    figure[w, what " ratio"] = get(w, what) / get(w, against)
+    compare(w, what, against)
     figure[w, what " verdict"] = get(w, what) <= limit ? "holds" : "MISSED"
     bars++
     missed += get(w, what) > limit
@@ -59,6 +61,16 @@ function derive_searches(series,   i, c, w) {
     }
 }
 
+# The bar of each search, and the times.
+function derive_named(series,   i, c, w) {
+    for (i = 1; i <= size[series]; i++) {
+        w = list[series, i]
+        bar(w, "index", "C, same method", get("bar", "search"), 0)
+        figure[w, "index time"] = spread(w, "index", get(w, "index ns"), "%.0f")
+        for (c = 1; c <= contestants; c++) derive_ratios(w, contestant[c])
+    }
+}
+
 BEGIN {
     FS = "\t"
     figure["bar", "search"] = "0.80"
@@ -74,17 +86,16 @@ $2 == "series" { list[$3, ++size[$3]] = $1; next }
 { figure[$1, $2] = $3 }
 
 END {
-    if (size["nine"] != 9 || size["tables"] != 4 || size["held"] != 10 || size["common"] != 15)
+    if (size["nine"] != 9 || size["page"] != 2 || size["tables"] != 4 || size["page tables"] != 1)
+        stop("a workload is missing")
+    if (size["held"] != 10 || size["common"] != 15)
         stop("a workload is missing")
     derive_searches("nine")
+    derive_searches("page")
     derive_searches("held")
     derive_searches("common")
-    for (i = 1; i <= size["nine"]; i++) {
-        w = list["nine", i]
-        bar(w, "index", "C, same method", get("bar", "search"), 0)
-        figure[w, "index time"] = spread(w, "index", get(w, "index ns"), "%.0f")
-        for (c = 1; c <= contestants; c++) derive_ratios(w, contestant[c])
-    }
+    derive_named("nine")
+    derive_named("page")
     for (i = 1; i <= size["tables"]; i++) {
         w = list["tables", i]
         factor = get("bar", get(w, "table") ~ /sharing/ ? "alike" : "other")
@@ -92,6 +103,10 @@ END {
         bar(w, "delete", "C test before delete", factor, get("bar", "more"))
         bar(w, "insert", "C test before insert", factor, get("bar", "more"))
     }
+    w = list["page tables", 1]
+    compare(w, "check", "C test")
+    compare(w, "delete", "C test before delete")
+    compare(w, "insert", "C test before insert")
     for (i = 1; i <= size["held"]; i++) {
         w = list["held", i]
         figure[w, "delete itself"] = less(w, "delete", "check before delete")

@@ -1,4 +1,4 @@
-/* Times the contestants on the nine workloads, in rounds. In each round all of them seek the same labels. The order of
+/* Times the contestants on the named workloads, in rounds. In each round all of them seek the same labels. The order of
  * the labels and that of the contestants are drawn anew for it: neither is to be learnt by the processor.
  *
  * Printed are the best round of each, in nanoseconds of a call, and quartiles: the index's of its rounds, the others'
@@ -42,7 +42,7 @@ static void time_round(struct workload *w, int *turn, double times[CONTESTANTS][
     shuffle(turn, CONTESTANTS, sizeof *turn);
     for (int k = 0; k < CONTESTANTS; k++) {
         double start = now();
-        kept = kept + contestant[turn[k]].loop(w);
+        kept = kept + loop(turn[k], w);
         times[turn[k]][round] = (now() - start) / QUERIES;
     }
 }
@@ -71,7 +71,7 @@ void take_times(void)
     for (int c = 0; c < CONTESTANTS; c++)
         turn[c] = c;
     printf("run\trounds\t%d\n", ROUNDS);
-    for (int number = 0; number < NINE; number++) {
+    for (int number = 0; number < NAMED; number++) {
         struct workload *w = make(number);
         for (int round = 0; round < ROUNDS; round++)
             time_round(w, turn, times, round);

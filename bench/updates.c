@@ -4,8 +4,10 @@
 
 void update(const struct update *u)
 {
-    uint64_t said = u->inserts ? strap_insert(u->table, WORDS, u->store, BYTES, u->label, u->n, u->value)
-                               : strap_delete(u->table, WORDS, u->store, BYTES, u->label, u->n);
+    const struct index *index = u->index;
+    uint64_t said =
+        u->inserts ? index->insert(u->table, index->words, u->store, index->bytes, u->label, u->n, u->value)
+                   : index->delete(u->table, index->words, u->store, index->bytes, u->label, u->n);
     if (strap_kind_of(said) != STRAP_UPDATED)
         fail("an update was refused");
 }
@@ -18,7 +20,7 @@ void each_update(const struct workload *w, void (*make)(const struct update *))
     memcpy(store, w->store, sizeof store);
     for (size_t k = 0; k < UPDATES; k++) {
         size_t i = k * 37 % w->labels.count;
-        struct update u = {false, w->labels.at[i].bytes, w->labels.at[i].len, value_at(i), table, store};
+        struct update u = {false, w->labels.at[i].bytes, w->labels.at[i].len, value_at(i), w->index, table, store};
         make(&u);
         u.inserts = true;
         make(&u);

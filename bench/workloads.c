@@ -18,14 +18,17 @@ static const char *const sought_name[] = {"held", "absent, parting early", "abse
 static const struct group alike = {"512 labels sharing 40 bytes", 20, 512, 40, 8, 24};
 static const struct group brief = {"512 labels of 1 to 8 random bytes", 21, 512, 0, 1, 8};
 static const struct group few = {"32 labels of 20 random bytes", 22, 32, 0, 20, 20};
+static const struct group few_of_page = {"the page's 32 labels of 20 random bytes", 22, 32, 0, 20, 20};
 static const struct group names = {"roster of 384 names entered in order", 0, 384, 0, 0, 0};
 
 static const struct {
+    const struct index *index;
     const struct group *group;
     enum sought sought;
-} nine[NINE] = {
-    {&alike, HELD}, {&alike, EARLY}, {&alike, LATE}, {&brief, HELD},   {&brief, OTHERS},
-    {&few, HELD},   {&few, OTHERS},  {&names, HELD}, {&names, OTHERS},
+} named[NAMED] = {
+    {&hub, &alike, HELD},        {&hub, &alike, EARLY},        {&hub, &alike, LATE}, {&hub, &brief, HELD},
+    {&hub, &brief, OTHERS},      {&hub, &few, HELD},           {&hub, &few, OTHERS}, {&hub, &names, HELD},
+    {&hub, &names, OTHERS},      {&page, &few_of_page, HELD},  {&page, &few_of_page, OTHERS},
 };
 
 void fail(const char *what)
@@ -66,28 +69,31 @@ static void draw_queries(struct labels *q, const struct labels *l, const struct 
 /* Enters a workload's labels with every contestant. */
 static void enter(struct workload *w)
 {
-    if (strap_layout(w->table, WORDS, w->store, BYTES) != pack(STRAP_DONE, 0, 0, 0, 0))
+    const struct index *x = w->index;
+    if (x->layout(w->table, x->words, w->store, x->bytes) != pack(STRAP_DONE, 0, 0, 0, 0))
         fail("layout refused");
     w->map = map_new();
     w->btree = btree_new();
     for (size_t i = 0; i < w->labels.count; i++) {
-        const uint8_t *x = w->labels.at[i].bytes;
+        const uint8_t *label = w->labels.at[i].bytes;
         size_t n = w->labels.at[i].len;
-        uint64_t said = strap_insert(w->table, WORDS, w->store, BYTES, x, n, value_at(i));
+        uint64_t said = x->insert(w->table, x->words, w->store, x->bytes, label, n, value_at(i));
         if (strap_kind_of(said) != STRAP_UPDATED || strap_slot_of(said) != i + 1)
             fail("insert refused");
-        memcpy(w->entries[i].label, x, WIDTH);
+        memcpy(w->entries[i].label, label, WIDTH);
         w->entries[i].len = (uint16_t)n;
         w->entries[i].value = value_at(i);
-        map_insert(w->map, x, n, value_at(i));
-        btree_insert(w->btree, x, n, value_at(i));
+        map_insert(w->map, label, n, value_at(i));
+        btree_insert(w->btree, label, n, value_at(i));
     }
     array_sort(w->entries, w->labels.count);
 }
 
-static struct workload *made(const char *series, const struct group *g, enum sought sought, uint64_t number)
+static struct workload *made(const struct index *index, const char *series, const struct group *g, enum sought sought,
+                             uint64_t number)
 {
     static struct workload w;
+    w.index = index;
     w.series = series;
     w.table_name = NULL;
     draw_labels(&w.labels, g);
@@ -97,12 +103,13 @@ static struct workload *made(const char *series, const struct group *g, enum sou
     return &w;
 }
 
-static struct workload *one_of_nine(int number)
+static struct workload *one_named(int number)
 {
-    const struct group *g = nine[number].group;
-    struct workload *w = made("nine", g, nine[number].sought, 50 + (uint64_t)number);
-    snprintf(w->name, sizeof w->name, "%s, %s", g->name, sought_name[nine[number].sought]);
-    if (nine[number].sought == HELD)
+    const struct group *g = named[number].group;
+    const char *series = number < NINE ? "nine" : "page";
+    struct workload *w = made(named[number].index, series, g, named[number].sought, 50 + (uint64_t)number);
+    snprintf(w->name, sizeof w->name, "%s, %s", g->name, sought_name[named[number].sought]);
+    if (named[number].sought == HELD)
         w->table_name = g->name;
     return w;
 }
@@ -112,22 +119,22 @@ static struct workload *with_held(size_t many)
 {
     struct group g = alike;
     g.count = many;
-    return made("held", &g, HELD, 50);
+    return made(&hub, "held", &g, HELD, 50);
 }
 
 /* 512 labels of 8 bytes after so many in common. */
 static struct workload *with_common(size_t many)
 {
     struct group g = {NULL, 77, SLOTS, many, 8, 8};
-    return made("common", &g, HELD, 50);
+    return made(&hub, "common", &g, HELD, 50);
 }
 
 struct workload *make(int number)
 {
-    if (number < NINE)
-        return one_of_nine(number);
-    bool held = number < NINE + HELD_STEPS;
-    size_t many = held ? (size_t)1 << (number - NINE) : 4 * (size_t)(number - NINE - HELD_STEPS);
+    if (number < NAMED)
+        return one_named(number);
+    bool held = number < NAMED + HELD_STEPS;
+    size_t many = held ? (size_t)1 << (number - NAMED) : 4 * (size_t)(number - NAMED - HELD_STEPS);
     struct workload *w = held ? with_held(many) : with_common(many);
     snprintf(w->name, sizeof w->name, "%zu", many);
     return w;

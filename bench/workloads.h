@@ -1,16 +1,19 @@
-/* The workloads: labels held by every contestant, and labels sought. Nine are the benchmark's own; in two series more
- * the labels held grow from 1 to 512, and the bytes in common from 0 to 56. */
+/* The workloads: labels held by every contestant, and labels sought. Nine are the benchmark's own, and two of these are
+ * the page's too; in two series more the labels held grow from 1 to 512, and the bytes in common from 0 to 56. */
 #ifndef WORKLOADS_H
 #define WORKLOADS_H
 
+#include "indexes.h"
 #include "labels.h"
 
-enum { NINE = 9, HELD_STEPS = 10, COMMON_STEPS = 15, WORKLOADS = NINE + HELD_STEPS + COMMON_STEPS };
+enum { NINE = 9, PAGES = 2, HELD_STEPS = 10, COMMON_STEPS = 15 };
+enum { NAMED = NINE + PAGES, WORKLOADS = NAMED + HELD_STEPS + COMMON_STEPS };
 
 struct workload {
-    const char *series;     /* nine, held or common */
+    const struct index *index;
+    const char *series;     /* nine, page, held or common */
     char name[80];          /* in the series held and common, how many */
-    const char *table_name; /* on the first of the nine that hold these labels: their name */
+    const char *table_name; /* on the first of nine, or of the page's, that hold these labels: their name */
     struct labels labels, queries;
     uint16_t table[WORDS];
     uint8_t store[BYTES];

@@ -1,10 +1,12 @@
-/* The strap label index for C99 and C++: the eight calls of the proved static library `exports`.
+/* The strap label index for C99 and C++: the eight calls of the hub's index, in the proved static library `exports`,
+ * and the same eight of the pairing page's own small index, in `page_exports`.
  *
- * Build the library with `rt staticlib exports`, and link target/staticlib/libexports.a (x86-64 Linux).
+ * Build a library with `rt staticlib exports` or `rt staticlib page_exports`, and link target/staticlib/libexports.a,
+ * libpage_exports.a or both (x86-64 Linux).
  *
  * A lent part (table, store, label, list) passes as its pointer and its length in elements. Any length and any content
  * is taken: a call answers, or refuses by a number below; a refused call has changed nothing. The contracts stand in
- * crates/exports/src/lib.rt, and crates/packs/specs/Packed.antt defines the packing.
+ * crates/exports/src/lib.rt and crates/page_exports/src/lib.rt, and crates/packs/specs/Packed.antt defines the packing.
  *
  * What is asked of a caller, since no proof reaches past the library:
  *   - each pointer is not null, is aligned for its type, and reaches as many elements as its length says, all of them
@@ -21,6 +23,7 @@
 
 /* Sizes: labels held at most, bytes of a label at most, words of a table, bytes of a store. */
 enum { STRAP_SLOTS = 512, STRAP_WIDTH = 64, STRAP_WORDS = 4100, STRAP_BYTES = 32768 };
+enum { STRAP_PAGE_SLOTS = 32, STRAP_PAGE_WIDTH = 20, STRAP_PAGE_WORDS = 260, STRAP_PAGE_BYTES = 640 };
 
 /* An answer is one number, from its lowest bits: 4 of kind, 12 of places, 16 of visits, then 16 and 16, `one` and
  * `other` below. What a kind does not name is 0. */
@@ -34,18 +37,18 @@ enum strap_kind {
     STRAP_VIEWED = 6   /* one: where in the store the label begins; other: its length */
 };
 
-/* Why a call is refused; of those that apply, the first in this order. */
+/* Why a call is refused; of those that apply, the first in this order. The sizes are those of the index called. */
 enum strap_refusal {
-    STRAP_WRONG_TABLE = 1,  /* table not 4,100 words: all calls */
-    STRAP_WRONG_STORE = 2,  /* store not 32,768 bytes: all calls */
+    STRAP_WRONG_TABLE = 1,  /* table not of its words: all calls */
+    STRAP_WRONG_STORE = 2,  /* store not of its bytes: all calls */
     STRAP_EMPTY_LABEL = 3,  /* label of length 0: search, insert, delete */
-    STRAP_LONG_LABEL = 4,   /* label longer than 64 bytes: search, insert, delete */
-    STRAP_WRONG_SLOT = 11,  /* slot 0 or above 512, or its length word is 0 or above 64: the view's two calls */
+    STRAP_LONG_LABEL = 4,   /* label longer than its width: search, insert, delete */
+    STRAP_WRONG_SLOT = 11,  /* slot 0 or above its slots, or the length word there is 0 or above its width: the view */
     STRAP_BROKEN_WALK = 5,  /* the walk met a link or a row that cannot be: search */
     STRAP_NOT_SOUND = 6,    /* table and store are not sound: insert, delete, check, listing */
     STRAP_ALREADY_HELD = 7, /* the label is held already: insert */
     STRAP_NOT_HELD = 8,     /* the label is not held: delete */
-    STRAP_FULL = 9,         /* 512 labels are held: insert */
+    STRAP_FULL = 9,         /* as many labels are held as it has slots: insert */
     STRAP_SHORT_LIST = 10   /* list shorter than the labels held: listing */
 };
 
@@ -97,6 +100,19 @@ uint64_t strap_view_check(const uint16_t *table, size_t words, const uint8_t *st
 
 /* STRAP_VIEWED: the slot's label is the part of the lent store from `start` on, `length` bytes long. */
 uint64_t strap_view(const uint16_t *table, size_t words, const uint8_t *store, size_t bytes, size_t slot);
+
+/* The same calls of the page's index. */
+uint64_t strap_page_layout(uint16_t *table, size_t words, uint8_t *store, size_t bytes);
+uint64_t strap_page_search(const uint16_t *table, size_t words, const uint8_t *store, size_t bytes,
+                           const uint8_t *label, size_t n);
+uint64_t strap_page_insert(uint16_t *table, size_t words, uint8_t *store, size_t bytes, const uint8_t *label, size_t n,
+                           uint16_t value);
+uint64_t strap_page_delete(uint16_t *table, size_t words, uint8_t *store, size_t bytes, const uint8_t *label, size_t n);
+uint64_t strap_page_check(const uint16_t *table, size_t words, const uint8_t *store, size_t bytes);
+uint64_t strap_page_listing(const uint16_t *table, size_t words, const uint8_t *store, size_t bytes, uint16_t *list,
+                            size_t room);
+uint64_t strap_page_view_check(const uint16_t *table, size_t words, const uint8_t *store, size_t bytes, size_t slot);
+uint64_t strap_page_view(const uint16_t *table, size_t words, const uint8_t *store, size_t bytes, size_t slot);
 
 #ifdef __cplusplus
 }

@@ -2,16 +2,16 @@
 // have, a label of 1 to as many.
 use images::memory;
 use images::memory::Image;
-use std::num::wrapping_add_usize;
+use images::sizes;
 
 // The number that refuses memory by its lengths, the table's before the store's; or 0.
 pub fn lent_refusal(image: &Image) -> usize {
     let slots = memory::entry(image, memory::SLOTS);
-    if memory::entry(image, memory::WORDS) != 4 + 8 * (slots % 513) {
+    if memory::entry(image, memory::WORDS) != sizes::words(slots) {
         return 1;
     }
     if memory::entry(image, memory::BYTES)
-        != memory::part_start(image, wrapping_add_usize(slots, 1))
+        != sizes::bytes(slots, memory::entry(image, memory::WIDTH))
     {
         return 2;
     }

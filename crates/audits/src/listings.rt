@@ -20,7 +20,8 @@ pub fn write(image: &mut Image, held: usize) {
 // The node at the left end of a node's subtree.
 fn lowest(image: &Image, slot: usize) -> usize {
     let mut at = slot;
-    for turn in 0..12usize {
+    let depth = memory::entry(image, memory::DEPTH);
+    for turn in 0..depth {
         let left = memory::field(image, at, memory::LEFT);
         if left == 0 {
             return at;

@@ -18,6 +18,9 @@ const MET: usize = 3;
 
 const HEIGHT: usize = 4;
 
+// More nodes than a word can say.
+const NO_TREE: usize = 65536;
+
 pub fn is_sound(image: &Image) -> bool {
     let mut work = [0u16; 35397];
     if memory::word(image, memory::MARK) > memory::entry(image, memory::SLOTS) {
@@ -25,9 +28,6 @@ pub fn is_sound(image: &Image) -> bool {
     }
     let count = read_tree(image, &mut work);
     if count != memory::word(image, memory::HELD) {
-        return false;
-    }
-    if count > 512 {
         return false;
     }
     if !nodes_hold(image, &work, count) {
@@ -42,10 +42,11 @@ pub fn is_sound(image: &Image) -> bool {
     rest_is_zero(image)
 }
 
-// Reads the tree into the lists, and gives the number of its nodes; 513 where its links give none.
+// Reads the tree into the lists, and gives the number of its nodes; where its links give none, `NO_TREE`.
 pub fn read_tree(image: &Image, work: &mut Lists) -> usize {
     let mut count = join(image, work, 0, memory::word(image, memory::ROOT), 0, 0);
-    for i in 0..512 {
+    let slots = memory::entry(image, memory::SLOTS);
+    for i in 0..slots {
         if i < count {
             let slot = lists::get(work, QUEUE, i);
             count = join_sons(image, work, count, slot);
@@ -87,20 +88,20 @@ fn join(
     if link == 0 {
         return count;
     }
-    if count > 511 {
-        return 513;
+    if count >= memory::entry(image, memory::SLOTS) {
+        return NO_TREE;
     }
     if link > memory::word(image, memory::MARK) {
-        return 513;
+        return NO_TREE;
     }
     if lists::get(work, MET, link) > 0 {
-        return 513;
+        return NO_TREE;
     }
     lists::put(work, QUEUE, count, link);
     lists::put(work, BEFORE, link, before);
     lists::put(work, AFTER, link, after);
     lists::put(work, MET, link, 1);
-    count + 1
+    wrapping_add_usize(count, 1)
 }
 
 fn nodes_hold(image: &Image, work: &Lists, count: usize) -> bool {
@@ -167,7 +168,8 @@ fn difference(image: &Image, one: usize, other: usize) -> usize {
     if other == 0 {
         return 0;
     }
-    for place in 1..66 {
+    let end = wrapping_add_usize(memory::entry(image, memory::WIDTH), 2);
+    for place in 1..end {
         if memory::number_at(image, one, place) != memory::number_at(image, other, place) {
             return place;
         }

@@ -11,7 +11,7 @@ use Rattle.types.specs.Sizes.{hub, tableLength, storeLength}
 use Rattle.types.specs.Answers.{Answer, found, absent, updated, listed, done, refused}
 use Rattle.labels.specs.Labels.{Label, numberOf, compareLabels, compareFrom, differencePlace}
 use Rattle.trees.specs.Plain.{Call, insert, delete}
-use Rattle.trees.proofs.Sizes.{hub-depth}
+use Rattle.tables.proofs.Depths.{hub-depth}
 use Rattle.tables.specs.Words.{labelsHeld, rowAt, partAt, labelAt}
 use Rattle.tables.specs.Written.{Memory, writtenTable, writtenStore}
 use Rattle.tables.specs.Steps.{isBad, searchSteps}

@@ -1,14 +1,19 @@
 -- The claims at the hub's limits: 512 labels of at most 64 bytes.
 -- hub-ordered-map, hub-cost-rule, hub-sound-is-written: demand 2, demand 3, and what sound tables are.
--- hub-counts: a search visits at most 12 nodes and examines at most 76 places.
-use Rattle.types.specs.Sizes.{hub}
-use Rattle.trees.proofs.Sizes.{hub-depth}
+-- hub-counts: a search visits at most 12 nodes and examines at most 76 places. hub-breaks: one node more breaks a walk.
+-- hub-refuses-page: the page's table is refused by 1.
+use native.Mathlib.Omega.{arith}
+use Rattle.types.specs.Sizes.{hub, page}
+use Rattle.tables.proofs.Depths.{hub-depth}
 use Rattle.tables.specs.Claims.{SoundIsWritten, OrderedMap, CostRule}
 use Rattle.sounds.proofs.SoundIsWritten.{sound-is-written}
-use Rattle.demands.specs.Counts.{CountsWithin}
+use Rattle.demands.specs.Counts.{CountsWithin, BreaksAfter}
+use Rattle.demands.specs.OtherMemory.{RefusesTableOf}
 use Rattle.demands.proofs.CostRule.{cost-rule}
 use Rattle.demands.proofs.OrderedMap.{ordered-map}
 use Rattle.demands.proofs.Counts.{counts-within}
+use Rattle.demands.proofs.Breaks.{breaks-after}
+use Rattle.demands.proofs.OtherMemory.{wrong-table-refused}
 
 -- Demand 2 at the hub.
 pub hub-ordered-map : OrderedMap hub
@@ -25,3 +30,11 @@ hub-sound-is-written = sound-is-written hub hub-depth
 -- A search of any list of calls on what layout left visits at most 12 nodes and examines at most 76 places.
 pub hub-counts : CountsWithin hub 12 76
 hub-counts = counts-within hub hub-cost-rule
+
+-- On any memory, a 13th node breaks a walk.
+pub hub-breaks : BreaksAfter hub 12
+hub-breaks = breaks-after hub
+
+-- The page's table lent to a call of the hub is refused by 1.
+pub hub-refuses-page : RefusesTableOf hub page
+hub-refuses-page table store words = wrong-table-refused hub table store (λ same. omega arith)

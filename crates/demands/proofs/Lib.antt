@@ -10,7 +10,10 @@ pub mod MapCalls
 pub mod Listings
 pub mod OrderedMap
 pub mod Counts
+pub mod OtherMemory
+pub mod Breaks
 pub mod Hub
+pub mod Page
 pub mod SoundAfter
 pub mod Computed
 pub mod CountsGiven

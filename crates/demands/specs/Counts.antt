@@ -1,14 +1,16 @@
--- What the cost rule says of the counts of one search in a list of calls ('The cost rule' of document 01).
+-- What the cost rule says of the counts of one search in a list of calls ('The cost rule' of document 01), and where a
+-- walk breaks on any memory.
 use mathlib.Core.List.{List, [], _∷_}
 use mathlib.Core.Path.{_≡_}
-use Prim.Native.Nat.{ℕ, _≤_}
+use Prim.Native.Nat.{ℕ, _≤_, _<_}
 use lib.ListN.{length}
 use Rattle.types.specs.declared.Limits.{Limits}
 use Rattle.types.specs.Sizes.{tableLength, storeLength}
 use Rattle.labels.specs.Labels.{Label}
 use Rattle.trees.specs.Plain.{Call}
+use Rattle.tables.specs.Words.{rootLink}
 use Rattle.tables.specs.Written.{Memory}
-use Rattle.tables.specs.Steps.{Walk, broken, searchSteps}
+use Rattle.tables.specs.Steps.{Walk, broken, steps, searchSteps}
 use Rattle.tables.specs.Outcomes.{layoutOutcome, visitsOf, placesOf}
 use Rattle.tables.specs.Claims.{LabelFits, callOutcome}
 
@@ -31,3 +33,11 @@ CountsWithin limits visits places =
     → Few visits places
     (searchSteps limits (afterList limits calls (layoutOutcome limits table store .memory) .table)
     (afterList limits calls (layoutOutcome limits table store .memory) .store) x)
+
+-- The claim, on words and bytes of any content: a walk that would visit more than so many nodes, were it let visit any
+-- number, is broken; of the page, "its seventh node breaks a walk" (M-101 of document 02).
+abbrev pub BreaksAfter : Limits → ℕ → Type 0
+BreaksAfter limits visits =
+    (table store : List ℕ) (x : Label) (any : ℕ)
+    → visits < visitsOf (steps limits table store x any (rootLink table) 1 1)
+    → searchSteps limits table store x ≡ broken

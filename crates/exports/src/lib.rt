@@ -9,7 +9,7 @@ ghost use Rattle.types.specs.Sizes.{hub};
 ghost use Rattle.tables.specs.Outcomes.{layoutOutcome, searchOutcome, insertOutcome, deleteOutcome, checkOutcome};
 ghost use Rattle.tables.specs.Outcomes.{listingOutcome, viewOutcome};
 ghost use Rattle.packs.specs.Packed.{packed};
-ghost use Rattle.exports.specs.Given.{packedView, Packs, PacksList};
+ghost use Rattle.exported.specs.Given.{packedView, Packs, PacksList};
 
 // Lays out an empty table.
 #[no_mangle]

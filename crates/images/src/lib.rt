@@ -2,3 +2,4 @@
 // one number.
 pub mod memory;
 pub mod packing;
+pub mod sizes;

@@ -1,5 +1,9 @@
-// The memory lent to a call, in one array: the sizes of the index that is called, the lengths lent, the words of the
-// table, those of a list, and the bytes of the store. What lies outside reads as 0 and is never written.
+// The memory lent to a call.
+use crate::sizes;
+use crate::sizes::Sizes;
+
+// In one array: the sizes of the index that is called, the lengths lent, the words of the table, those of a list, and
+// the bytes of the store. What lies outside reads as 0 and is never written.
 pub type Image = [u16; 37391];
 
 // The words and bytes of an image, as they are lent: one more of each than the hub's, and one more than it has slots.
@@ -9,11 +13,12 @@ pub type List = [u16; 513];
 
 pub type Bytes = [u8; 32769];
 
-// How many words of the table, bytes of the store and words of the list are lent.
+// How many words of the table, bytes of the store and words of the list are lent, and whether to the page's index.
 pub struct Lent {
     pub words: usize,
     pub bytes: usize,
     pub room: usize,
+    pub page: bool,
 }
 
 // The sizes: slots, bytes of a label, nodes on a path.
@@ -103,17 +108,13 @@ pub fn field(image: &Image, slot: usize, j: usize) -> usize {
 
 // Where the bytes of a slot begin in the store.
 pub fn part_start(image: &Image, slot: usize) -> usize {
-    times(std::num::wrapping_sub_usize(slot, 1), entry(image, WIDTH))
-}
-
-fn times(slots: usize, width: usize) -> usize {
-    slots % 513 * (width % 65)
+    sizes::bytes(std::num::wrapping_sub_usize(slot, 1), entry(image, WIDTH))
 }
 
 // Byte `j` of a slot.
 pub fn byte(image: &Image, slot: usize, j: usize) -> usize {
     if slot > 0 {
-        if j < 64 {
+        if j < entry(image, WIDTH) {
             return store_byte(
                 image,
                 std::num::wrapping_add_usize(part_start(image, slot), j),
@@ -163,6 +164,7 @@ pub fn lengths(image: &Image) -> Lent {
         words: entry(image, WORDS),
         bytes: entry(image, BYTES),
         room: entry(image, ROOM),
+        page: is_page(image),
     }
 }
 
@@ -217,16 +219,30 @@ pub fn put_list(image: &mut Image, list: &List) {
     }
 }
 
-// The memory of an index of so many slots, labels of so many bytes and paths of so many nodes: no word and no byte but
-// 0, the whole of it lent, and a list of 513 words, none of which is a slot.
-pub fn fresh(slots: usize, width: usize, depth: usize) -> Image {
+// The memory of an index: no word and no byte but 0, the whole of it lent, and a list of one word more than it has
+// slots, none of which is a slot.
+pub fn fresh(sizes: Sizes) -> Image {
     let mut image = [0u16; 37391];
-    put(&mut image, SLOTS, slots);
-    put(&mut image, WIDTH, width);
-    put(&mut image, DEPTH, depth);
-    put(&mut image, WORDS, 4 + 8 * (slots % 513));
-    put(&mut image, BYTES, times(slots, width));
-    put(&mut image, ROOM, 513);
+    call(&mut image, sizes);
+    put(&mut image, WORDS, sizes::words(sizes.slots));
+    put(&mut image, BYTES, sizes::bytes(sizes.slots, sizes.width));
+    put(
+        &mut image,
+        ROOM,
+        std::num::wrapping_add_usize(sizes.slots, 1),
+    );
     put_list(&mut image, &[65535u16; 513]);
     image
+}
+
+// The memory is lent to the index of these sizes.
+pub fn call(image: &mut Image, sizes: Sizes) {
+    put(image, SLOTS, sizes.slots);
+    put(image, WIDTH, sizes.width);
+    put(image, DEPTH, sizes.depth);
+}
+
+// Whether the index that is called is the pairing page's.
+pub fn is_page(image: &Image) -> bool {
+    entry(image, SLOTS) == sizes::page().slots
 }

@@ -102,14 +102,15 @@ fn done(why: usize) -> usize {
 }
 
 fn lay_out(image: &mut Image) -> usize {
-    clear(image, memory::TABLE, memory::LIST);
-    clear(image, memory::STORE, 37391);
+    clear(image, memory::TABLE, memory::entry(image, memory::WORDS));
+    clear(image, memory::STORE, memory::entry(image, memory::BYTES));
     done(0)
 }
 
-fn clear(image: &mut Image, from: usize, to: usize) {
-    for i in from..to {
-        memory::put(image, i, 0);
+// Clears so many entries from one on.
+fn clear(image: &mut Image, from: usize, count: usize) {
+    for i in 0..count {
+        memory::put(image, wrapping_add_usize(from, i), 0);
     }
 }
 

@@ -135,7 +135,8 @@ fn examined(places: usize, from: usize, end: usize) -> usize {
 
 // The last place that a comparison from a place on examines: the first difference, or the shared end.
 fn compared_to(image: &Image, slot: usize, label: &[u8], from: usize) -> usize {
-    for place in from..65 {
+    let end = wrapping_add_usize(memory::entry(image, memory::WIDTH), 1);
+    for place in from..end {
         let sought = label_number(label, place);
         if sought == 0 {
             return place;
@@ -144,5 +145,5 @@ fn compared_to(image: &Image, slot: usize, label: &[u8], from: usize) -> usize {
             return place;
         }
     }
-    65
+    end
 }

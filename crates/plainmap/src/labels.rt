@@ -1,7 +1,9 @@
 // The labels of the map, and their order by the numbers at their places.
 use crate::BYTES;
+use crate::COUNTS;
 use crate::LENGTHS;
 use crate::VALUES;
+use crate::WIDTH;
 use crate::lists;
 use crate::lists::Lists;
 use std::num::wrapping_add_usize;
@@ -37,7 +39,8 @@ pub fn label_number(label: &[u8], place: usize) -> usize {
 
 // The first place at which a slot's label and another hold different numbers; 0 where they are the same label.
 pub fn difference(map: &Lists, slot: usize, label: &[u8]) -> usize {
-    for place in 1..66 {
+    let end = wrapping_add_usize(lists::get(map, COUNTS, WIDTH), 2);
+    for place in 1..end {
         if slot_number(map, slot, place) != label_number(label, place) {
             return place;
         }

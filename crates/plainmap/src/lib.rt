@@ -30,7 +30,7 @@ const HIGH: usize = 2;
 
 const SLOTS: usize = 3;
 
-const WIDTH: usize = 4;
+pub const WIDTH: usize = 4;
 
 // What the map says: a refusal's number, or 0 with the label's slot and value; a label that is not held has slot 0.
 pub struct Said {

@@ -1,6 +1,7 @@
 // The changes that damage a sound table: what is written where.
 use images::memory;
 use images::memory::Image;
+use images::sizes;
 use samples::numbers;
 use samples::shapes;
 use std::num::wrapping_add_usize;
@@ -101,31 +102,34 @@ fn slots(image: &Image) -> usize {
 }
 
 fn word_write(image: &Image, seed: u64) -> Written {
-    let word = numbers::below(seed, 4 + 8 * (slots(image) % 513));
+    let word = numbers::below(seed, sizes::words(slots(image)));
     word_to(
         word,
-        another(memory::word(image, word), numbers::next(seed)),
+        another(image, memory::word(image, word), numbers::next(seed)),
     )
 }
 
 fn byte_write(image: &Image, seed: u64) -> Written {
-    let all = memory::part_start(image, wrapping_add_usize(slots(image), 1));
+    let all = sizes::bytes(slots(image), memory::entry(image, memory::WIDTH));
     let byte = numbers::below(seed, all);
     Written {
         entry: wrapping_add_usize(memory::STORE, byte),
-        to: another(memory::store_byte(image, byte), numbers::next(seed)) % 256,
+        to: another(image, memory::store_byte(image, byte), numbers::next(seed)) % 256,
     }
 }
 
 // Another number, or by chance the same: one beside it, 0, a small one, one about the number of slots, or any.
-fn another(found: usize, seed: u64) -> usize {
+fn another(image: &Image, found: usize, seed: u64) -> usize {
     let other = numbers::next(seed);
     match numbers::below(seed, 6) {
         0 => wrapping_add_usize(found, 1),
         1 => wrapping_sub_usize(found, 1),
         2 => 0,
         3 => numbers::below(other, 50),
-        4 => wrapping_add_usize(numbers::below(other, 2), 512),
+        4 => wrapping_add_usize(
+            numbers::below(other, 2),
+            memory::entry(image, memory::SLOTS),
+        ),
         _ => numbers::below(other, 65536),
     }
 }

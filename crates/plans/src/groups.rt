@@ -3,7 +3,6 @@ use samples::calls::DELETE;
 use samples::calls::INSERT;
 use samples::calls::SEARCH;
 use samples::numbers;
-use samples::shapes;
 use samples::shapes::ALIKE;
 use samples::shapes::ANY;
 use samples::shapes::ENDS;
@@ -15,7 +14,7 @@ use std::num::wrapping_sub_usize;
 
 pub const GROUPS: usize = 14;
 
-// The ways of a group: case 11 of the paper, by its own numbers; all labels of a shape inserted, searched and deleted,
+// The ways of a group: case 11 of the paper, by the index's sizes; all labels of a shape inserted, searched and deleted,
 // in order, in reverse or in steps of 333; calls drawn from a generator; some labels inserted, then twelve deleted.
 pub const CASE: usize = 0;
 
@@ -29,37 +28,60 @@ pub const DRAWN: usize = 4;
 
 pub const PREPARED: usize = 5;
 
-// A group: its way, its shape, and how many calls it makes.
+// A group: its way, its shape, and of how many labels.
 pub struct Plan {
     pub way: usize,
     pub shape: usize,
-    pub calls: usize,
+    pub labels: usize,
 }
 
-fn group_of(way: usize, shape: usize, calls: usize) -> Plan {
-    Plan {
-        way: way,
-        shape: shape,
-        calls: calls,
+// A group's plan on an index of so many slots.
+pub fn plan_of(group: usize, slots: usize) -> Plan {
+    match group {
+        0 => group_of(CASE, ROSTER, slots),
+        1 => group_of(IN_ORDER, ROSTER, surplus(slots)),
+        2 => group_of(REVERSED, ROSTER, surplus(slots)),
+        3 => group_of(STEPPED, ALIKE, surplus(slots)),
+        4 => group_of(STEPPED, ENDS, surplus(slots)),
+        5 => group_of(STEPPED, ANY, surplus(slots)),
+        6 => group_of(DRAWN, ROSTER, surplus(slots)),
+        7 => group_of(DRAWN, ALIKE, surplus(slots)),
+        8 => group_of(DRAWN, ENDS, surplus(slots)),
+        9 => group_of(DRAWN, SHORT, surplus(slots)),
+        10 => group_of(DRAWN, ANY, surplus(slots)),
+        11 => group_of(PREPARED, ALIKE, fewer(45, slots)),
+        12 => group_of(PREPARED, ENDS, fewer(70, slots)),
+        _ => group_of(PREPARED, ROSTER, wrapping_add_usize(slots, 48)),
     }
 }
 
-pub fn plan_of(group: usize) -> Plan {
-    match group {
-        0 => group_of(CASE, ROSTER, 1041),
-        1 => group_of(IN_ORDER, ROSTER, 2400),
-        2 => group_of(REVERSED, ROSTER, 2400),
-        3 => group_of(STEPPED, ALIKE, 2400),
-        4 => group_of(STEPPED, ENDS, 2400),
-        5 => group_of(STEPPED, ANY, 2400),
-        6 => group_of(DRAWN, ROSTER, 8000),
-        7 => group_of(DRAWN, ALIKE, 8000),
-        8 => group_of(DRAWN, ENDS, 8000),
-        9 => group_of(DRAWN, SHORT, 8000),
-        10 => group_of(DRAWN, ANY, 8000),
-        11 => group_of(PREPARED, ALIKE, 57),
-        12 => group_of(PREPARED, ENDS, 82),
-        _ => group_of(PREPARED, ROSTER, 572),
+fn group_of(way: usize, shape: usize, labels: usize) -> Plan {
+    Plan {
+        way: way,
+        shape: shape,
+        labels: labels,
+    }
+}
+
+// More labels than there are slots: 800 for the hub, 50 for the page.
+fn surplus(slots: usize) -> usize {
+    slots % 513 * 25 / 16
+}
+
+// So many labels, or else two fewer than there are slots.
+fn fewer(labels: usize, slots: usize) -> usize {
+    numbers::least(labels, wrapping_sub_usize(slots, 2))
+}
+
+// How many calls a group makes.
+pub fn calls(plan: Plan) -> usize {
+    let labels = plan.labels % 801;
+    let way = plan.way;
+    match way {
+        CASE => 2 * labels + 17,
+        DRAWN => numbers::least(8000, 40 * labels),
+        PREPARED => labels + 12,
+        _ => 3 * labels,
     }
 }
 
@@ -78,8 +100,8 @@ pub const ANY_REFUSAL: usize = 12;
 pub fn call(plan: Plan, i: usize, seed: u64) -> Planned {
     let way = plan.way;
     match way {
-        CASE => case_call(i),
-        DRAWN => drawn(plan.shape, i, seed),
+        CASE => case_call(plan.labels, i),
+        DRAWN => drawn(plan, i, seed),
         PREPARED => prepared(plan, i),
         _ => swept(plan, i),
     }
@@ -95,36 +117,41 @@ fn judged(call: usize, shape: usize, label: usize) -> Planned {
 }
 
 fn swept(plan: Plan, i: usize) -> Planned {
-    let call = match i / shapes::COUNT {
+    let call = match numbers::quotient(i, plan.labels) {
         0 => INSERT,
         1 => SEARCH,
         _ => DELETE,
     };
-    judged(call, plan.shape, swept_label(plan.way, i % shapes::COUNT))
+    let label = swept_label(plan, numbers::remainder(i, plan.labels));
+    judged(call, plan.shape, label)
 }
 
 // The label that comes after `i` others.
-fn swept_label(way: usize, i: usize) -> usize {
+fn swept_label(plan: Plan, i: usize) -> usize {
+    let labels = plan.labels;
+    let way = plan.way;
     match way {
         IN_ORDER => i,
-        REVERSED => wrapping_sub_usize(shapes::COUNT, i) % shapes::COUNT,
-        _ => stepped(333, i),
+        REVERSED => numbers::remainder(wrapping_sub_usize(labels, i), labels),
+        _ => stepped(333, i, labels),
     }
 }
 
-// The number that so many steps reach around the numbers of a shape's labels.
-fn stepped(step: usize, times: usize) -> usize {
+// The number that so many steps reach around the numbers of so many labels.
+fn stepped(step: usize, times: usize, labels: usize) -> usize {
     let mut k = 0usize;
     for i in 0..times {
-        k = wrapping_add_usize(k, step) % shapes::COUNT;
+        k = numbers::remainder(wrapping_add_usize(k, step), labels);
     }
     k
 }
 
-// For 900 calls mostly inserts, then for 900 mostly deletes, and so on.
-fn drawn(shape: usize, i: usize, seed: u64) -> Planned {
-    let label = numbers::below(numbers::next(seed), shapes::COUNT);
-    judged(drawn_call(seed, i / 900 % 2), shape, label)
+// Mostly inserts, for as many calls as there are labels and an eighth more; then for as many mostly deletes; and so on.
+fn drawn(plan: Plan, i: usize, seed: u64) -> Planned {
+    let labels = plan.labels;
+    let label = numbers::below(numbers::next(seed), labels);
+    let phase = numbers::quotient(i, wrapping_add_usize(labels, labels / 8));
+    judged(drawn_call(seed, phase % 2), plan.shape, label)
 }
 
 fn drawn_call(seed: u64, phase: usize) -> usize {
@@ -139,22 +166,38 @@ fn drawn_call(seed: u64, phase: usize) -> usize {
 }
 
 fn prepared(plan: Plan, i: usize) -> Planned {
-    let inserts = wrapping_sub_usize(plan.calls, 12);
+    let inserts = plan.labels;
     if i < inserts {
         return judged(INSERT, plan.shape, i);
     }
-    judged(DELETE, plan.shape, stepped(5, i - inserts))
+    judged(DELETE, plan.shape, stepped(5, i - inserts, inserts))
 }
 
-// The lengths 64, 65 and 0; a roster up to the 512th label; two more; each again; and the lengths again.
-fn case_call(i: usize) -> Planned {
-    match i {
-        0..=7 => lengths_call(i, 0),
-        8..=519 => member(wrapping_sub_usize(i, 8), 0),
-        520..=521 => member(wrapping_sub_usize(i, 8), 9),
-        522..=1033 => member(wrapping_sub_usize(i, 522), 7),
-        _ => lengths_call(wrapping_sub_usize(i, 1034), 9),
+// The lengths of a label: the longest, one more and none. Then a roster until the table is full, two labels more, each
+// held one again, and the lengths again.
+fn case_call(slots: usize, i: usize) -> Planned {
+    if i < 8 {
+        return lengths_call(i, 0);
     }
+    filling(slots, i - 8)
+}
+
+fn filling(slots: usize, i: usize) -> Planned {
+    if i < slots {
+        return member(i, 0);
+    }
+    full(slots, i - slots)
+}
+
+// Call `i` on a full table.
+fn full(slots: usize, i: usize) -> Planned {
+    if i < 2 {
+        return member(wrapping_add_usize(slots, i), 9);
+    }
+    if i - 2 < slots {
+        return member(i - 2, 7);
+    }
+    lengths_call(i - 2 - slots, 9)
 }
 
 fn member(label: usize, refusal: usize) -> Planned {
@@ -166,7 +209,8 @@ fn member(label: usize, refusal: usize) -> Planned {
     }
 }
 
-// A label of 64 bytes is inserted with one number, one of 65 and none are refused by 4 and 3, and the first is deleted.
+// The longest label is inserted or refused by a number, one longer and none are refused by 4 and 3, and the first is
+// deleted.
 fn lengths_call(i: usize, refusal: usize) -> Planned {
     let call = match i {
         0..=2 => INSERT,

@@ -1,12 +1,23 @@
 // The lengths at which the tests lend memory, labels and lists, besides the index's own.
 use images::memory;
 use images::memory::Image;
+use images::sizes;
+use images::sizes::Sizes;
 use std::num::wrapping_add_usize;
 use std::num::wrapping_sub_usize;
 
 // The pairs of a table's and a store's length: each of one less, the index's own and one more with each; then none of
-// one of the two.
-pub const PAIRS: usize = 11;
+// one of the two, and the other index's of one of the two; and at last this memory lent to the other index.
+pub const PAIRS: usize = 14;
+
+const ALL_TO_OTHER: usize = 13;
+
+// How many are lent: one less than the index's own length, as many, one more; none; as many as the other index has.
+const OWN: usize = 1;
+
+const NONE: usize = 3;
+
+const OTHERS: usize = 4;
 
 // The lengths of a label.
 pub const LABELS: usize = 3;
@@ -16,42 +27,69 @@ pub const ROOMS: usize = 4;
 
 // Lends memory at a pair of lengths.
 pub fn lend(image: &mut Image, pair: usize) {
-    lend_as(image, memory::WORDS, words_lent(pair));
-    lend_as(image, memory::BYTES, bytes_lent(pair));
+    let other = other_than(image);
+    if pair == ALL_TO_OTHER {
+        memory::call(image, other);
+    } else {
+        lend_as(
+            image,
+            memory::WORDS,
+            words_lent(pair),
+            sizes::words(other.slots),
+        );
+        lend_as(
+            image,
+            memory::BYTES,
+            bytes_lent(pair),
+            sizes::bytes(other.slots, other.width),
+        );
+    }
 }
 
-// Lends one less than a length, as many, one more, or none.
-fn lend_as(image: &mut Image, length: usize, how: usize) {
-    if how < 3 {
-        let own = wrapping_add_usize(memory::entry(image, length), how);
-        memory::put(image, length, wrapping_sub_usize(own, 1));
-    } else {
-        memory::put(image, length, 0);
+// The sizes of the index that is not called.
+fn other_than(image: &Image) -> Sizes {
+    if memory::is_page(image) {
+        return sizes::hub();
     }
+    sizes::page()
+}
+
+fn lend_as(image: &mut Image, length: usize, how: usize, others: usize) {
+    let own = memory::entry(image, length);
+    let lent = match how {
+        NONE => 0,
+        OTHERS => others,
+        _ => wrapping_sub_usize(wrapping_add_usize(own, how), 1),
+    };
+    memory::put(image, length, lent);
 }
 
 fn words_lent(pair: usize) -> usize {
     match pair {
-        9 => 3,
-        10 => 1,
+        9 => NONE,
+        10 => OWN,
+        11 => OTHERS,
+        12 => OWN,
         _ => pair / 3,
     }
 }
 
 fn bytes_lent(pair: usize) -> usize {
     match pair {
-        9 => 1,
-        10 => 3,
+        9 => OWN,
+        10 => NONE,
+        11 => OWN,
+        12 => OTHERS,
         _ => pair % 3,
     }
 }
 
-// The bytes of a label: none, one, one too many.
-pub fn label(i: usize) -> usize {
+// The bytes of a label, where it may have so many: none, one, one too many.
+pub fn label(i: usize, width: usize) -> usize {
     match i {
         0 => 0,
         1 => 1,
-        _ => 65,
+        _ => wrapping_add_usize(width, 1),
     }
 }
 

@@ -93,9 +93,10 @@ fn updates_end(call: usize) -> usize {
     DELETED
 }
 
-// Prints the line of a group of calls on sound tables: its shape, its way, and its counts.
-pub fn print_sequence(shape: usize, way: usize, tally: Tally) {
+// Prints the line of a group of calls on sound tables of the hub or the page: its shape, its way, and its counts.
+pub fn print_sequence(page: bool, shape: usize, way: usize, tally: Tally) {
     print(
+        page,
         shape,
         b", case 11|, in order|, reversed|, stepped|, drawn|, prepared",
         way,
@@ -105,8 +106,9 @@ pub fn print_sequence(shape: usize, way: usize, tally: Tally) {
 }
 
 // Prints the line of a group of changes of one kind.
-pub fn print_damage(shape: usize, kind: usize, tally: Tally) {
+pub fn print_damage(page: bool, shape: usize, kind: usize, tally: Tally) {
     print(
+        page,
         shape,
         b", one word|, two words|, three words|, one byte|, two rows|, freed slots|, cycles",
         kind,
@@ -116,8 +118,9 @@ pub fn print_damage(shape: usize, kind: usize, tally: Tally) {
 }
 
 // Prints the line of the group of other lengths.
-pub fn print_lengths(shape: usize, tally: Tally) {
+pub fn print_lengths(page: bool, shape: usize, tally: Tally) {
     print(
+        page,
         shape,
         b", other lengths",
         0,
@@ -126,10 +129,11 @@ pub fn print_lengths(shape: usize, tally: Tally) {
     );
 }
 
-// Prints a line: the name of a shape, one among some names, and a text in which digits stand for counts.
-fn print(shape: usize, names: &[u8], name: usize, counts: &[u8], tally: Tally) {
+// Prints a line: which index, the name of a shape, one among some names, and a text in which digits stand for counts.
+fn print(page: bool, shape: usize, names: &[u8], name: usize, counts: &[u8], tally: Tally) {
     let mut line = [0u8; 400];
-    let a = put_shape(&mut line, 0, shape);
+    let start = texts::put_name(&mut line, 0, b"hub, |page, ", page as usize);
+    let a = put_shape(&mut line, start, shape);
     let b = texts::put_name(&mut line, a, names, name);
     let c = texts::put_counts(&mut line, b, counts, tally);
     texts::print(&mut line, c);

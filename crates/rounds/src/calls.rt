@@ -1,14 +1,11 @@
 // The calls of the index on the memory that an image holds, lent at the lengths that it says.
+use crate::hub;
+use crate::page;
 use images::memory;
 use images::memory::Image;
 use images::memory::Lent;
 use images::packing;
-use samples::calls::CHECK;
-use samples::calls::DELETE;
-use samples::calls::INSERT;
-use samples::calls::LAYOUT;
 use samples::calls::LISTING;
-use samples::calls::SEARCH;
 use samples::calls::VIEW;
 
 // Makes a call on a label, with a value or a slot, and puts what it leaves into the image; the answer in one number.
@@ -52,24 +49,28 @@ fn lend(
     if m > bytes.len() {
         return 0;
     }
-    on(&mut words[..n], &mut bytes[..m], call, label, number)
+    on(
+        lent.page,
+        &mut words[..n],
+        &mut bytes[..m],
+        call,
+        label,
+        number,
+    )
 }
 
-fn on(table: &mut [u16], store: &mut [u8], call: usize, label: &[u8], number: usize) -> usize {
-    match call {
-        INSERT => exports::strap_insert(table, store, label, (number % 65536) as u16),
-        DELETE => exports::strap_delete(table, store, label),
-        LAYOUT => exports::strap_layout(table, store),
-        _ => read(table, store, call, label, number),
+fn on(
+    of_page: bool,
+    table: &mut [u16],
+    store: &mut [u8],
+    call: usize,
+    label: &[u8],
+    number: usize,
+) -> usize {
+    if of_page {
+        return page::on(table, store, call, label, number);
     }
-}
-
-fn read(table: &[u16], store: &[u8], call: usize, label: &[u8], slot: usize) -> usize {
-    match call {
-        SEARCH => exports::strap_search(table, store, label),
-        CHECK => exports::strap_check(table, store),
-        _ => exports::strap_view_check(table, store, slot),
-    }
+    hub::on(table, store, call, label, number)
 }
 
 // Makes a listing of the first words and bytes into the first words of a list, or puts the view's bytes there.
@@ -94,9 +95,24 @@ fn lend_list(
         return 0;
     }
     if call == VIEW {
-        return put_view(list, index::view(&words[..n], &bytes[..m], slot));
+        return put_view(list, view(lent.page, &words[..n], &bytes[..m], slot));
     }
-    exports::strap_listing(&words[..n], &bytes[..m], &mut list[..room])
+    listing(lent.page, &words[..n], &bytes[..m], &mut list[..room])
+}
+
+fn listing(of_page: bool, table: &[u16], store: &[u8], list: &mut [u16]) -> usize {
+    if of_page {
+        return page_exports::strap_page_listing(table, store, list);
+    }
+    exports::strap_listing(table, store, list)
+}
+
+// The view's bytes, which come from the index itself.
+pub fn view<'a>(of_page: bool, table: &[u16], store: &'a [u8], slot: usize) -> &'a [u8] {
+    if of_page {
+        return index::page::view(table, store, slot);
+    }
+    index::view(table, store, slot)
 }
 
 fn put_view(list: &mut [u16], part: &[u8]) -> usize {

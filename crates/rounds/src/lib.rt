@@ -1,5 +1,7 @@
 // Calls of the index, each compared with what the plain map and the second writing of the paper say.
 pub mod calls;
+mod hub;
+mod page;
 pub mod states;
 
 use comparisons::answers;

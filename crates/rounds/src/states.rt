@@ -1,11 +1,14 @@
 // The memory after a call on a sound table, compared with the map, by the second writing and by calls that read it.
 use crate::calls;
+use crate::hub;
+use crate::page;
 use images::memory;
 use images::memory::Image;
 use images::memory::Lent;
 use images::packing;
 use plainmap::lists::Lists;
 use reports::faults;
+use samples::calls::CHECK;
 use samples::calls::LISTING;
 
 // The fault of what a call left; where the second writing has none, that of the index's own check, listing and views.
@@ -38,19 +41,26 @@ fn lent_fault(words: &[u16], bytes: &[u8], lent: Lent, map: &Lists) -> usize {
     if m > bytes.len() {
         return faults::MEMORY;
     }
-    reading_fault(&words[..n], &bytes[..m], map)
+    reading_fault(lent.page, &words[..n], &bytes[..m], map)
 }
 
-fn reading_fault(table: &[u16], store: &[u8], map: &Lists) -> usize {
-    if exports::strap_check(table, store) != packing::plain(packing::DONE, 0) {
+fn reading_fault(of_page: bool, table: &[u16], store: &[u8], map: &Lists) -> usize {
+    if check(of_page, table, store) != packing::plain(packing::DONE, 0) {
         return faults::CHECK;
     }
     let n = plainmap::held(map);
     for i in 0..n {
         let slot = plainmap::slot_at(map, i);
-        if !comparisons::states::spells(map, slot, index::view(table, store, slot)) {
+        if !comparisons::states::spells(map, slot, calls::view(of_page, table, store, slot)) {
             return faults::VIEW;
         }
     }
     0
+}
+
+fn check(of_page: bool, table: &[u16], store: &[u8]) -> usize {
+    if of_page {
+        return page::read(table, store, CHECK, b"", 0);
+    }
+    hub::read(table, store, CHECK, b"", 0)
 }

@@ -18,6 +18,28 @@ pub fn below(seed: u64, n: usize) -> usize {
     (seed >> 20) as usize % n
 }
 
+pub fn least(x: usize, y: usize) -> usize {
+    if y < x {
+        return y;
+    }
+    x
+}
+
+// Quotient and remainder; by 0, 0.
+pub fn quotient(x: usize, n: usize) -> usize {
+    if n == 0 {
+        return 0;
+    }
+    x / n
+}
+
+pub fn remainder(x: usize, n: usize) -> usize {
+    if n == 0 {
+        return 0;
+    }
+    x % n
+}
+
 // A number that stands for two others.
 pub fn mixed(one: usize, other: usize) -> usize {
     let seed = std::num::wrapping_add_u64((one as u64) << 20, other as u64);

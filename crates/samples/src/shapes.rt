@@ -1,31 +1,30 @@
 // Labels by their number, in several shapes.
 use crate::numbers;
+use std::num::wrapping_add_usize;
+use std::num::wrapping_sub_usize;
 
 // A label lies at the start of 66 bytes.
 pub type Label = [u8; 66];
 
 // A roster, "strap-0000" and on, whose numbers ascend as its labels do.
 pub const ROSTER: usize = 0;
-// Labels that share 40 opening bytes, some parting early from the others.
+// Labels that share 40 opening bytes, or as many as leave four, some parting early from the others.
 pub const ALIKE: usize = 1;
 // Bytes 0 and 255 alone, many a label the opening of others.
 pub const ENDS: usize = 2;
 // One to three letters of four.
 pub const SHORT: usize = 3;
-// Any bytes, lengths 1 to 64, and now and then 0 or 65.
+// Any bytes, of each length that a label may have, and now and then none or one too many.
 pub const ANY: usize = 4;
-// Letters "z" alone: 64 of them, 65, or none.
+// Letters "z" alone: as many as a label may have, one more, or none.
 pub const LONGEST: usize = 5;
 
-// How many labels a shape has.
-pub const COUNT: usize = 800;
-
-// Writes 66 bytes, the first of which are a shape's label, and gives its length.
-pub fn write(label: &mut Label, shape: usize, k: usize) -> usize {
+// Writes 66 bytes, the first of which are a shape's label, for an index of labels of so many bytes; gives its length.
+pub fn write(label: &mut Label, width: usize, shape: usize, k: usize) -> usize {
     for i in 0..66usize {
-        label[i] = narrow(byte(shape, k, i));
+        label[i] = narrow(byte(width, shape, k, i));
     }
-    length(shape, k)
+    length(width, shape, k)
 }
 
 // The first `n` bytes of a label, or all where there are fewer.
@@ -44,40 +43,40 @@ fn narrow(x: usize) -> u8 {
     (x % 256) as u8
 }
 
-fn length(shape: usize, k: usize) -> usize {
+fn length(width: usize, shape: usize, k: usize) -> usize {
     match shape {
         ROSTER => 10,
-        ALIKE => 44 - k % 2,
-        ENDS => k % 64 + 1,
-        SHORT => k / 64 % 3 + 1,
-        LONGEST => longest_length(k),
-        _ => any_length(numbers::mixed(k, 66) % 100),
+        ALIKE => wrapping_add_usize(shared(width), 4 - k % 2),
+        ENDS => wrapping_add_usize(numbers::remainder(k, width), 1),
+        SHORT => k % 3 + 1,
+        LONGEST => longest_length(width, k),
+        _ => any_length(width, numbers::mixed(k, 66) % 100),
     }
 }
 
-fn longest_length(k: usize) -> usize {
+fn longest_length(width: usize, k: usize) -> usize {
     match k {
-        0 => 64,
-        1 => 65,
+        0 => width,
+        1 => wrapping_add_usize(width, 1),
         _ => 0,
     }
 }
 
-fn any_length(n: usize) -> usize {
+fn any_length(width: usize, n: usize) -> usize {
     match n {
         98 => 0,
-        99 => 65,
-        _ => n % 64 + 1,
+        99 => wrapping_add_usize(width, 1),
+        _ => wrapping_add_usize(numbers::remainder(n, width), 1),
     }
 }
 
 // Byte `i` of the label with number `k`.
-fn byte(shape: usize, k: usize, i: usize) -> usize {
+fn byte(width: usize, shape: usize, k: usize, i: usize) -> usize {
     match shape {
         ROSTER => roster_byte(k, i),
-        ALIKE => alike_byte(k, i),
-        ENDS => 255 * ((k / 64 >> (i % 4)) % 2),
-        SHORT => short_byte(k, i),
+        ALIKE => alike_byte(shared(width), k, i),
+        ENDS => 255 * ((numbers::quotient(k, width) >> (i % 4)) % 2),
+        SHORT => short_byte(k / 3, i),
         LONGEST => 122,
         _ => numbers::mixed(k, i),
     }
@@ -103,20 +102,29 @@ fn digit(x: usize) -> usize {
     48 + x % 10
 }
 
-fn alike_byte(k: usize, i: usize) -> usize {
-    match i {
-        40 => digit(k / 1000),
-        41 => digit(k / 100),
-        42 => digit(k / 10),
-        43 => digit(k),
-        _ => shared_byte(k, i),
+// The opening bytes that labels of at most so many share.
+fn shared(width: usize) -> usize {
+    if width < 44 {
+        return wrapping_sub_usize(width, 4);
+    }
+    40
+}
+
+// Byte `i` after so many that are shared.
+fn alike_byte(opening: usize, k: usize, i: usize) -> usize {
+    match wrapping_sub_usize(i, opening) {
+        0 => digit(k / 1000),
+        1 => digit(k / 100),
+        2 => digit(k / 10),
+        3 => digit(k),
+        _ => shared_byte(opening, k, i),
     }
 }
 
 // One of the opening bytes: of every seventh label one of them may be another.
-fn shared_byte(k: usize, i: usize) -> usize {
+fn shared_byte(opening: usize, k: usize, i: usize) -> usize {
     if k % 7 == 0 {
-        if i == k % 40 {
+        if i == numbers::remainder(k, opening) {
             return 103 + k % 3;
         }
     }

@@ -3,3 +3,4 @@ pub mod Reading
 pub mod Clauses
 pub mod Offsets
 pub mod Paths
+pub mod Depths

@@ -3,7 +3,6 @@
 -- least-is-least: `least` is the least number of nodes of a height-balanced tree of a height.
 -- least-below-height: a balanced tree has at least as many nodes as the smallest tree of any height up to its own.
 -- deepest-is-depth: the depth that `Deepest` names is the greatest height of a balanced tree with so many nodes.
--- hub-depth, page-depth, least-at-hub-depth: the depths of 512 and of 32 nodes, and the two least numbers around 512.
 use mathlib.Core.Path.{_≡_, refl}
 use mathlib.Core.List.{[]}
 use Prim.Native.Nat.{ℕ, zero, suc, _+_, _≤_, max}
@@ -112,14 +111,3 @@ deepest-is-depth capacity depth deepest =
     by-test : (t : Tree) → Balanced t → size t ≤ capacity → {b : Bool} → Ltb depth (height t) b → height t ≤ depth
     by-test t h fits (lt-yes p) = absurd (omega (arith, least-below-height t h (suc depth) p))
     by-test t h fits (lt-no p) = p
-
--- 512 nodes allow height 12, and 32 allow 6.
-pub hub-depth : Deepest 512 12
-hub-depth = record { some = omega arith; none = omega arith }
-
-pub page-depth : Deepest 32 6
-page-depth = record { some = omega arith; none = omega arith }
-
--- The two least numbers of nodes around 512.
-pub least-at-hub-depth : (least 12 ≡ 376) × (least 13 ≡ 609)
-least-at-hub-depth = (refl, refl)

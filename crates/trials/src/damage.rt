@@ -1,4 +1,5 @@
 // The groups of calls on damaged memory: sound tables with words, bytes, rows or links changed.
+use images::memory;
 use images::memory::Image;
 use plans::changes;
 use plans::changes::KINDS;
@@ -10,11 +11,13 @@ use reports::tallies::SOUND;
 use reports::tallies::Tally;
 use samples::numbers;
 use samples::shapes;
+use std::num::wrapping_add_usize;
 
 // Makes the changes of each kind on a table of a shape, and prints a line for each.
 pub fn run(image: &Image, shape: usize) {
     for kind in 0..KINDS {
-        tallies::print_damage(shape, kind, group(image, shape, kind));
+        let tally = group(image, shape, kind);
+        tallies::print_damage(memory::is_page(image), shape, kind, tally);
     }
 }
 
@@ -56,8 +59,10 @@ fn drawn(image: &Image, shape: usize, kind: usize, seed: u64, tally: Tally) -> T
 // Makes every call on changed memory, with a label of the shape and a slot, and counts.
 fn every(image: &Image, shape: usize, seed: u64, tally: Tally) -> Tally {
     let mut label = [0u8; 66];
-    let n = shapes::write(&mut label, shape, numbers::below(seed, 80));
-    let slot = numbers::below(numbers::next(seed), 80);
+    let width = memory::entry(image, memory::WIDTH);
+    let n = shapes::write(&mut label, width, shape, numbers::below(seed, 80));
+    let slots = wrapping_add_usize(memory::entry(image, memory::SLOTS), 8);
+    let slot = numbers::below(numbers::next(seed), numbers::least(80, slots));
     let changed = tallies::one_more(tally, CHANGES);
     let counted = tallies::one_more_if(changed, SOUND, audits::sound::is_sound(image));
     calls(image, shapes::opening(&label, n), slot, counted)

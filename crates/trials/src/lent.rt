@@ -10,7 +10,8 @@ use samples::calls::LISTING;
 use samples::shapes;
 
 pub fn run(image: &Image) {
-    tallies::print_lengths(shapes::ROSTER, listings(image, lend(image)));
+    let tally = listings(image, lend(image));
+    tallies::print_lengths(memory::is_page(image), shapes::ROSTER, tally);
 }
 
 // Each of the eight calls on memory of each pair of lengths, with labels of each length.
@@ -27,7 +28,8 @@ fn lent(image: &Image, k: usize, tally: Tally) -> Tally {
     let label = [104u8; 66];
     let mut copy = *image;
     lengths::lend(&mut copy, k / 8 % lengths::PAIRS);
-    let n = lengths::label(k / 8 / lengths::PAIRS);
+    let width = memory::entry(image, memory::WIDTH);
+    let n = lengths::label(k / 8 / lengths::PAIRS, width);
     tried(image, &copy, k % 8, shapes::opening(&label, n), tally)
 }
 

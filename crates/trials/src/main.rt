@@ -7,11 +7,19 @@ mod sequences;
 
 use images::memory;
 use images::memory::Image;
+use images::sizes;
+use images::sizes::Sizes;
 use plainmap::lists::Lists;
 use plans::groups;
 
 fn main() {
-    let mut image = memory::fresh(512, 64, 12);
+    run_index(sizes::hub());
+    run_index(sizes::page());
+}
+
+// All groups on the index of these sizes.
+fn run_index(sizes: Sizes) {
+    let mut image = memory::fresh(sizes);
     let mut map = [0u16; 35397];
     run(&mut image, &mut map);
     lent::run(&image);
@@ -26,7 +34,7 @@ fn run(image: &mut Image, map: &mut Lists) {
 
 // The damaged memories of a table that a group prepared.
 fn damage_if(image: &Image, group: usize) {
-    let plan = groups::plan_of(group);
+    let plan = groups::plan_of(group, memory::entry(image, memory::SLOTS));
     if plan.way == groups::PREPARED {
         damage::run(image, plan.shape);
     }

@@ -14,20 +14,21 @@ use samples::shapes;
 
 // Makes a group's calls on an empty index and map, and prints its line.
 pub fn run(image: &mut Image, map: &mut Lists, group: usize) {
-    let plan = groups::plan_of(group);
+    let plan = groups::plan_of(group, memory::entry(image, memory::SLOTS));
     rounds::calls::make(image, samples::calls::LAYOUT, b"", 0);
     plainmap::clear(
         map,
         memory::entry(image, memory::SLOTS),
         memory::entry(image, memory::WIDTH),
     );
-    tallies::print_sequence(plan.shape, plan.way, made(image, map, plan));
+    let tally = made(image, map, plan);
+    tallies::print_sequence(memory::is_page(image), plan.shape, plan.way, tally);
 }
 
 fn made(image: &mut Image, map: &mut Lists, plan: Plan) -> Tally {
     let mut tally = tallies::none();
     let mut seed = numbers::SEED;
-    let n = plan.calls;
+    let n = groups::calls(plan);
     for i in 0..n {
         seed = numbers::next(seed);
         let counted = call(image, map, groups::call(plan, i, seed), tally);
@@ -39,7 +40,8 @@ fn made(image: &mut Image, map: &mut Lists, plan: Plan) -> Tally {
 
 fn call(image: &mut Image, map: &mut Lists, planned: Planned, tally: Tally) -> Tally {
     let mut label = [0u8; 66];
-    let n = shapes::write(&mut label, planned.shape, planned.label);
+    let width = memory::entry(image, memory::WIDTH);
+    let n = shapes::write(&mut label, width, planned.shape, planned.label);
     let value = numbers::value(planned.label, tallies::get(tally, tallies::INSERTED));
     let round = labelled(image, map, planned, shapes::opening(&label, n), value);
     tallies::count(tally, planned.call, round, plainmap::held(map))

@@ -1,6 +1,6 @@
 // The values that the calls of the label index take and give.
 ghost use mathlib.Core.Path.{_≡_};
-ghost use Rattle.types.specs.Sizes.{hub};
+ghost use Rattle.types.specs.Sizes.{hub, page};
 ghost use Rattle.types.specs.Answers.{refusalNumber};
 
 // The sizes of an index: slots of the table, bytes of a label, nodes on a path from the root.
@@ -101,5 +101,16 @@ pub fn hub() -> Limits
         slots: 512,
         width: 64,
         depth: 12,
+    }
+}
+
+// The pairing page's index: 32 labels of at most 20 bytes.
+pub fn page() -> Limits
+    ensures { λ r. ⌜ r ≡ page ⌝ }
+{
+    Limits {
+        slots: 32,
+        width: 20,
+        depth: 6,
     }
 }

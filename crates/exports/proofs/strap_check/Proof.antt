@@ -1,5 +1,5 @@
 -- `exports::strap_check` meets its contract: it packs what the index answers.
-use Rattle.exports.proofs.GivenLaws.{packed-as}
+use Rattle.exported.proofs.GivenLaws.{packed-as}
 use borrow.Author.Needs.{needs}
 use Rattle.exports.proofs.strap_check.Statement.{statement}
 use Rattle.exports.proofs.strap_check.Tie as tie

@@ -1,5 +1,5 @@
 -- `exports::strap_delete` meets its contract: it packs what the index answers.
-use Rattle.exports.proofs.GivenLaws.{packs-as}
+use Rattle.exported.proofs.GivenLaws.{packs-as}
 use borrow.Author.Needs.{needs}
 use Rattle.exports.proofs.strap_delete.Statement.{statement}
 use Rattle.exports.proofs.strap_delete.Tie as tie

@@ -1,5 +1,5 @@
 -- `exports::strap_listing` meets its contract: it packs what the index answers.
-use Rattle.exports.proofs.GivenLaws.{packs-list-as}
+use Rattle.exported.proofs.GivenLaws.{packs-list-as}
 use borrow.Author.Needs.{needs}
 use Rattle.exports.proofs.strap_listing.Statement.{statement}
 use Rattle.exports.proofs.strap_listing.Tie as tie

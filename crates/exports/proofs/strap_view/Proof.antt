@@ -1,6 +1,7 @@
 -- `exports::strap_view` meets its contract: it packs the part's start and length, or the refusal.
 use borrow.Author.Needs.{needs}
-use Rattle.exports.proofs.GivenLaws.{start-fits, shown-packed, hidden-packed}
+use Rattle.index.proofs.Sizes.{at-hub}
+use Rattle.exported.proofs.GivenLaws.{start-fits, shown-packed, hidden-packed}
 use Rattle.exports.proofs.strap_view.Statement.{statement}
 use Rattle.exports.proofs.strap_view.Tie as tie
 
@@ -14,7 +15,7 @@ hub-requires : tie.Need-hub-requires
 hub-requires c κs = search needs
 
 part-start-requires : tie.Need-part-start-requires
-part-start-requires c κs = search start-fits
+part-start-requires c κs = search (start-fits, at-hub)
 
 view-requires : tie.Need-view-requires
 view-requires c κs = search needs

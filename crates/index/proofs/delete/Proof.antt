@@ -1,5 +1,5 @@
 -- `index::delete` meets its contract: its limits are the hub's.
-use Rattle.index.proofs.Hub.{edits-at-hub}
+use Rattle.index.proofs.Sizes.{edits-at-hub}
 use borrow.Author.Needs.{needs}
 use Rattle.index.proofs.delete.Statement.{statement}
 use Rattle.index.proofs.delete.Tie as tie

@@ -1,5 +1,5 @@
 -- `index::insert` meets its contract: its limits are the hub's.
-use Rattle.index.proofs.Hub.{edits-at-hub}
+use Rattle.index.proofs.Sizes.{edits-at-hub}
 use borrow.Author.Needs.{needs}
 use Rattle.index.proofs.insert.Statement.{statement}
 use Rattle.index.proofs.insert.Tie as tie

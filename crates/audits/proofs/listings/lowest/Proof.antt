@@ -6,10 +6,13 @@ use Rattle.audits.proofs.listings.lowest.Statement.{statement}
 use Rattle.audits.proofs.listings.lowest.Tie as tie
 
 abbrev Inv-loop : tie.InvT-loop
-Inv-loop image slot at₀ turn₀ at turn = turn₀ ≤ turn
+Inv-loop image slot at₀ depth turn₀ at turn = turn₀ ≤ turn
 
 abbrev μ-loop : tie.MeasureT-loop
-μ-loop image slot at₀ turn₀ at turn = 12 - turn
+μ-loop image slot at₀ depth turn₀ at turn = depth - turn
+
+entry-requires : tie.Need-entry-requires Inv-loop μ-loop
+entry-requires c κs = search needs
 
 loop-holds : tie.Need-loop-holds Inv-loop μ-loop
 loop-holds c = search needs
@@ -38,6 +41,7 @@ lowest-spec =
     (tie.spec
     Inv-loop
     μ-loop
+    entry-requires
     loop-holds
     field-requires
     returns

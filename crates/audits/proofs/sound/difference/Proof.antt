@@ -6,16 +6,22 @@ use Rattle.audits.proofs.sound.difference.Statement.{statement}
 use Rattle.audits.proofs.sound.difference.Tie as tie
 
 abbrev Inv-loop : tie.InvT-loop
-Inv-loop image one other place₀ place = place₀ ≤ place
+Inv-loop image one other end place₀ place = place₀ ≤ place
 
 abbrev μ-loop : tie.MeasureT-loop
-μ-loop image one other place₀ place = 66 - place
+μ-loop image one other end place₀ place = end - place
 
 returns : tie.Need-returns Inv-loop μ-loop
 returns c = search needs
 
 returns-2 : tie.Need-returns-2 Inv-loop μ-loop
 returns-2 c = search needs
+
+entry-requires : tie.Need-entry-requires Inv-loop μ-loop
+entry-requires c κs = search needs
+
+wrapping-add-usize-requires : tie.Need-wrapping-add-usize-requires Inv-loop μ-loop
+wrapping-add-usize-requires c κs = search needs
 
 loop-holds : tie.Need-loop-holds Inv-loop μ-loop
 loop-holds c = search needs
@@ -49,6 +55,8 @@ difference-spec =
     μ-loop
     returns
     returns-2
+    entry-requires
+    wrapping-add-usize-requires
     loop-holds
     number-at-requires
     number-at-requires-2

@@ -6,16 +6,19 @@ use Rattle.audits.proofs.sound.read_tree.Statement.{statement}
 use Rattle.audits.proofs.sound.read_tree.Tie as tie
 
 abbrev Inv-loop : tie.InvT-loop
-Inv-loop image work₀ count₀ i₀ work count i = i₀ ≤ i
+Inv-loop image work₀ count₀ slots i₀ work count i = i₀ ≤ i
 
 abbrev μ-loop : tie.MeasureT-loop
-μ-loop image work₀ count₀ i₀ work count i = 512 - i
+μ-loop image work₀ count₀ slots i₀ work count i = slots - i
 
 word-requires : tie.Need-word-requires Inv-loop μ-loop
 word-requires c κs = search needs
 
 join-requires : tie.Need-join-requires Inv-loop μ-loop
 join-requires c κs = search needs
+
+entry-requires : tie.Need-entry-requires Inv-loop μ-loop
+entry-requires c κs = search needs
 
 loop-holds : tie.Need-loop-holds Inv-loop μ-loop
 loop-holds c = search needs
@@ -46,6 +49,7 @@ read-tree-spec =
     μ-loop
     word-requires
     join-requires
+    entry-requires
     loop-holds
     get-requires
     join-sons-requires

@@ -6,13 +6,16 @@ use Rattle.oracles.proofs.outcomes.clear.Statement.{statement}
 use Rattle.oracles.proofs.outcomes.clear.Tie as tie
 
 abbrev Inv-loop : tie.InvT-loop
-Inv-loop image₀ from to i₀ image i = i₀ ≤ i
+Inv-loop image₀ from count i₀ image i = i₀ ≤ i
 
 abbrev μ-loop : tie.MeasureT-loop
-μ-loop image₀ from to i₀ image i = to - i
+μ-loop image₀ from count i₀ image i = count - i
 
 loop-holds : tie.Need-loop-holds Inv-loop μ-loop
 loop-holds c = search needs
+
+wrapping-add-usize-requires : tie.Need-wrapping-add-usize-requires Inv-loop μ-loop
+wrapping-add-usize-requires c κs = search needs
 
 put-requires : tie.Need-put-requires Inv-loop μ-loop
 put-requires c κs = search needs
@@ -31,4 +34,14 @@ returns c = search needs
 
 pub clear-spec : {M : Type 1} → statement M
 clear-spec =
-    tie.close (tie.spec Inv-loop μ-loop loop-holds put-requires add-i loop-less loop-again returns)
+    tie.close
+    (tie.spec
+    Inv-loop
+    μ-loop
+    loop-holds
+    wrapping-add-usize-requires
+    put-requires
+    add-i
+    loop-less
+    loop-again
+    returns)

@@ -6,10 +6,16 @@ use Rattle.oracles.proofs.steps.compared_to.Statement.{statement}
 use Rattle.oracles.proofs.steps.compared_to.Tie as tie
 
 abbrev Inv-loop : tie.InvT-loop
-Inv-loop image slot label from place₀ place = place₀ ≤ place
+Inv-loop image slot label from end place₀ place = place₀ ≤ place
 
 abbrev μ-loop : tie.MeasureT-loop
-μ-loop image slot label from place₀ place = 65 - place
+μ-loop image slot label from end place₀ place = end - place
+
+entry-requires : tie.Need-entry-requires Inv-loop μ-loop
+entry-requires c κs = search needs
+
+wrapping-add-usize-requires : tie.Need-wrapping-add-usize-requires Inv-loop μ-loop
+wrapping-add-usize-requires c κs = search needs
 
 loop-holds : tie.Need-loop-holds Inv-loop μ-loop
 loop-holds c = search needs
@@ -44,6 +50,8 @@ compared-to-spec =
     (tie.spec
     Inv-loop
     μ-loop
+    entry-requires
+    wrapping-add-usize-requires
     loop-holds
     label-number-requires
     returns

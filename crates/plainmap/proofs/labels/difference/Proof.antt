@@ -6,10 +6,16 @@ use Rattle.plainmap.proofs.labels.difference.Statement.{statement}
 use Rattle.plainmap.proofs.labels.difference.Tie as tie
 
 abbrev Inv-loop : tie.InvT-loop
-Inv-loop map slot label place₀ place = place ≤ 66
+Inv-loop map slot label end place₀ place = place₀ ≤ place
 
 abbrev μ-loop : tie.MeasureT-loop
-μ-loop map slot label place₀ place = 66 - place
+μ-loop map slot label end place₀ place = end - place
+
+get-requires : tie.Need-get-requires Inv-loop μ-loop
+get-requires c κs = search needs
+
+wrapping-add-usize-requires : tie.Need-wrapping-add-usize-requires Inv-loop μ-loop
+wrapping-add-usize-requires c κs = search needs
 
 loop-holds : tie.Need-loop-holds Inv-loop μ-loop
 loop-holds c = search needs
@@ -41,6 +47,8 @@ difference-spec =
     (tie.spec
     Inv-loop
     μ-loop
+    get-requires
+    wrapping-add-usize-requires
     loop-holds
     slot-number-requires
     label-number-requires

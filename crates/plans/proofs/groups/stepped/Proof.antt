@@ -6,16 +6,19 @@ use Rattle.plans.proofs.groups.stepped.Statement.{statement}
 use Rattle.plans.proofs.groups.stepped.Tie as tie
 
 abbrev Inv-loop : tie.InvT-loop
-Inv-loop step times k₀ i₀ k i = i₀ ≤ i
+Inv-loop step times labels k₀ i₀ k i = i₀ ≤ i
 
 abbrev μ-loop : tie.MeasureT-loop
-μ-loop step times k₀ i₀ k i = times - i
+μ-loop step times labels k₀ i₀ k i = times - i
 
 loop-holds : tie.Need-loop-holds Inv-loop μ-loop
 loop-holds c = search needs
 
 wrapping-add-usize-requires : tie.Need-wrapping-add-usize-requires Inv-loop μ-loop
 wrapping-add-usize-requires c κs = search needs
+
+remainder-requires : tie.Need-remainder-requires Inv-loop μ-loop
+remainder-requires c κs = search needs
 
 add-i : tie.Need-add-i Inv-loop μ-loop
 add-i c = search needs
@@ -37,6 +40,7 @@ stepped-spec =
     μ-loop
     loop-holds
     wrapping-add-usize-requires
+    remainder-requires
     add-i
     loop-less
     loop-again

@@ -32,20 +32,20 @@ same-length c = search needs
 returns-4 : tie.Need-returns-4
 returns-4 c = search needs
 
-slice-aggregate-strap-listing : tie.Need-slice-aggregate-strap-listing
-slice-aggregate-strap-listing c = simp length-take (omega arith)
+slice-aggregate-listing : tie.Need-slice-aggregate-listing
+slice-aggregate-listing c = simp length-take (omega arith)
 
-slice-aggregate-strap-listing-2 : tie.Need-slice-aggregate-strap-listing-2
-slice-aggregate-strap-listing-2 c = simp length-take (omega arith)
+slice-aggregate-listing-2 : tie.Need-slice-aggregate-listing-2
+slice-aggregate-listing-2 c = simp length-take (omega arith)
 
-slice-relend-prefix-strap-listing : tie.Need-slice-relend-prefix-strap-listing
-slice-relend-prefix-strap-listing c = search needs
+slice-relend-prefix-listing : tie.Need-slice-relend-prefix-listing
+slice-relend-prefix-listing c = search needs
 
-slice-aggregate-strap-listing-3 : tie.Need-slice-aggregate-strap-listing-3
-slice-aggregate-strap-listing-3 c = simp length-take (omega arith)
+slice-aggregate-listing-3 : tie.Need-slice-aggregate-listing-3
+slice-aggregate-listing-3 c = simp length-take (omega arith)
 
-strap-listing-requires : tie.Need-strap-listing-requires
-strap-listing-requires c κs = search needs
+listing-requires : tie.Need-listing-requires
+listing-requires c κs = search needs
 
 same-length-2 : tie.Need-same-length-2
 same-length-2 c = search needs
@@ -66,10 +66,10 @@ lend-list-spec =
     put-view-requires
     same-length
     returns-4
-    slice-aggregate-strap-listing
-    slice-aggregate-strap-listing-2
-    slice-relend-prefix-strap-listing
-    slice-aggregate-strap-listing-3
-    strap-listing-requires
+    slice-aggregate-listing
+    slice-aggregate-listing-2
+    slice-relend-prefix-listing
+    slice-aggregate-listing-3
+    listing-requires
     same-length-2
     returns-5)

@@ -6,13 +6,13 @@ use Rattle.rounds.proofs.states.reading_fault.Statement.{statement}
 use Rattle.rounds.proofs.states.reading_fault.Tie as tie
 
 abbrev Inv-loop : tie.InvT-loop
-Inv-loop table store map n i₀ i = i₀ ≤ i
+Inv-loop of-page table store map n i₀ i = i₀ ≤ i
 
 abbrev μ-loop : tie.MeasureT-loop
-μ-loop table store map n i₀ i = n - i
+μ-loop of-page table store map n i₀ i = n - i
 
-strap-check-requires : tie.Need-strap-check-requires Inv-loop μ-loop
-strap-check-requires c κs = search needs
+check-requires : tie.Need-check-requires Inv-loop μ-loop
+check-requires c κs = search needs
 
 plain-requires : tie.Need-plain-requires Inv-loop μ-loop
 plain-requires c κs = search needs
@@ -56,7 +56,7 @@ reading-fault-spec =
     (tie.spec
     Inv-loop
     μ-loop
-    strap-check-requires
+    check-requires
     plain-requires
     returns
     held-requires

@@ -1,4 +1,4 @@
--- `samples::shapes::write` is safe and ends. The loop's invariant: its counter stays within its range. The measure is
+-- `samples::shapes::write` is safe and ends. The loop's invariant: its counter is not below its start. The measure is
 -- what is left of the range. Assumes nothing.
 use Prim.Native.Nat.{_≤_, _-_}
 use borrow.Author.Needs.{needs}
@@ -6,10 +6,10 @@ use Rattle.samples.proofs.shapes.write.Statement.{statement}
 use Rattle.samples.proofs.shapes.write.Tie as tie
 
 abbrev Inv-loop : tie.InvT-loop
-Inv-loop label₀ shape k i₀ label i = i ≤ 66
+Inv-loop label₀ width shape k i₀ label i = i ≤ 66
 
 abbrev μ-loop : tie.MeasureT-loop
-μ-loop label₀ shape k i₀ label i = 66 - i
+μ-loop label₀ width shape k i₀ label i = 66 - i
 
 loop-holds : tie.Need-loop-holds Inv-loop μ-loop
 loop-holds c = search needs

@@ -17,6 +17,9 @@ loop-holds c = search needs
 group-requires : tie.Need-group-requires Inv-loop μ-loop
 group-requires c κs = search needs
 
+is-page-requires : tie.Need-is-page-requires Inv-loop μ-loop
+is-page-requires c κs = search needs
+
 print-damage-requires : tie.Need-print-damage-requires Inv-loop μ-loop
 print-damage-requires c κs = search needs
 
@@ -40,6 +43,7 @@ run-spec =
     μ-loop
     loop-holds
     group-requires
+    is-page-requires
     print-damage-requires
     add-kind
     loop-less

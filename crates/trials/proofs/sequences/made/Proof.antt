@@ -14,6 +14,9 @@ abbrev μ-loop : tie.MeasureT-loop
 none-requires : tie.Need-none-requires Inv-loop μ-loop
 none-requires c κs = search needs
 
+calls-requires : tie.Need-calls-requires Inv-loop μ-loop
+calls-requires c κs = search needs
+
 loop-holds : tie.Need-loop-holds Inv-loop μ-loop
 loop-holds c = search needs
 
@@ -48,6 +51,7 @@ made-spec =
     Inv-loop
     μ-loop
     none-requires
+    calls-requires
     loop-holds
     next-requires
     call-requires

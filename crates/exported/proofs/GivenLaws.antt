@@ -11,7 +11,6 @@ use Rattle.types.specs.declared.Limits.{Limits}
 use Rattle.types.specs.declared.Refusal.{Refusal}
 use Rattle.types.specs.declared.DoneAnswer.{DoneAnswer}
 use Rattle.types.specs.declared.DoneAnswer.the-variants.{Done, Refused}
-use Rattle.types.specs.Sizes.{hub}
 use Rattle.types.specs.Answers.{Answer, done, refused, refusalNumber, doneSays}
 use Rattle.tables.specs.Words.{partStart}
 use Rattle.tables.specs.Outcomes.{Outcome, Listing, Verdict, pass, refuse, answerBy, viewVerdict, viewOutcome, viewPart}
@@ -20,9 +19,9 @@ use Rattle.views.specs.Parts.{startBy, viewStart, Views}
 use Rattle.words.specs.Parts.{StartFits}
 use Rattle.views.proofs.ViewLaws.{view-start}
 use Rattle.lists.specs.Given.{Lists}
-use Rattle.index.proofs.Hub.{at-hub as hub-fits}
+use Rattle.words.specs.Limits.{LimitsFit}
 use Rattle.packs.specs.Packed.{packed, packedPart}
-use Rattle.exports.specs.Given.{viewedBy, packedView, Packs, PacksList}
+use Rattle.exported.specs.Given.{viewedBy, packedView, Packs, PacksList}
 use Rattle.labels.proofs.Clashes.{clash}
 
 module _ (given : ℕ) where
@@ -54,28 +53,27 @@ part-hidden : (v : Verdict) (number start len : ℕ) → refused number ≡ answ
 part-hidden pass number start len says = clash cc
 part-hidden (refuse other) number start len says = let same : number ≡ other = cc in rw same
 
-module _ (table : List ℕ) (store : RefT (List ℕ)) (k : ℕ) (said : DoneAnswer)
-    (says : doneSays said ≡ viewOutcome hub table (store .now) k) where
-  module _ (is-done : said ≡ Done) (limits : Limits) (at-hub : limits ≡ hub) where
-    -- Where the first call is done, the part's start is a machine word.
-    pub start-fits : StartFits limits k
-    start-fits = rw at-hub (view-start hub table (store .now) k (hub-fits hub refl) said says is-done)
+module _ (limits : Limits) (table : List ℕ) (store : RefT (List ℕ)) (k : ℕ) (said : DoneAnswer)
+    (says : doneSays said ≡ viewOutcome limits table (store .now) k) where
+  -- Where the first call is done, the part's start is a machine word.
+  pub start-fits : said ≡ Done → LimitsFit limits → (given : Limits) → given ≡ limits → StartFits given k
+  start-fits is-done fit given same = rw same (view-start limits table (store .now) k fit said says is-done)
 
-    -- The view is packed with the part's start and length.
-    pub shown-packed : (part : RefT (List ℕ)) (start given : ℕ) → Views hub table store k part
-        → start ≡ partStart limits k → given ≡ packedPart start (length (part .now))
-        → given ≡ packedView hub table (store .now) k
-    unfolding packedView viewStart viewOutcome
-    shown-packed part start given views starts packs =
-        let at : start ≡ partStart hub k = starts ∙ ap (λ l. partStart l k) at-hub in
-        packs ∙ ap₂ packedPart at (ap length (views .bytes))
-        ∙ sym (part-shown (viewVerdict hub table (store .now) k) (partStart hub k)
-        (length (viewPart hub table (store .now) k)) (cc))
+  -- The view is packed with the part's start and length.
+  pub shown-packed : said ≡ Done → (own : Limits) → own ≡ limits → (part : RefT (List ℕ)) (start given : ℕ)
+      → Views limits table store k part → start ≡ partStart own k
+      → given ≡ packedPart start (length (part .now)) → given ≡ packedView limits table (store .now) k
+  unfolding packedView viewStart viewOutcome
+  shown-packed is-done own same part start given views starts packs =
+      let at : start ≡ partStart limits k = starts ∙ ap (λ l. partStart l k) same in
+      packs ∙ ap₂ packedPart at (ap length (views .bytes))
+      ∙ sym (part-shown (viewVerdict limits table (store .now) k) (partStart limits k)
+      (length (viewPart limits table (store .now) k)) (cc))
 
   -- Where it refuses, the view is packed with the refusal's number.
   pub hidden-packed : (refusal : Refusal) (given : ℕ) → said ≡ Refused refusal
-      → given ≡ packed (refused (refusalNumber refusal)) → given ≡ packedView hub table (store .now) k
+      → given ≡ packed (refused (refusalNumber refusal)) → given ≡ packedView limits table (store .now) k
   unfolding packedView viewOutcome
   hidden-packed refusal given is-refused packs =
-      packs ∙ sym (part-hidden (viewVerdict hub table (store .now) k) (refusalNumber refusal)
-      (viewStart hub table (store .now) k) (length (viewPart hub table (store .now) k)) (cc))
+      packs ∙ sym (part-hidden (viewVerdict limits table (store .now) k) (refusalNumber refusal)
+      (viewStart limits table (store .now) k) (length (viewPart limits table (store .now) k)) (cc))

@@ -1,0 +1,40 @@
+-- The claims at the page's limits: 32 labels of at most 20 bytes.
+-- page-ordered-map, page-cost-rule, page-sound-is-written: demand 2, demand 3, and what sound tables are.
+-- page-counts: a search visits at most 6 nodes and examines at most 26 places. page-breaks: one node more breaks a walk.
+-- page-refuses-hub: the hub's table is refused by 1.
+use native.Mathlib.Omega.{arith}
+use Rattle.types.specs.Sizes.{hub, page}
+use Rattle.tables.proofs.Depths.{page-depth}
+use Rattle.tables.specs.Claims.{SoundIsWritten, OrderedMap, CostRule}
+use Rattle.sounds.proofs.SoundIsWritten.{sound-is-written}
+use Rattle.demands.specs.Counts.{CountsWithin, BreaksAfter}
+use Rattle.demands.specs.OtherMemory.{RefusesTableOf}
+use Rattle.demands.proofs.CostRule.{cost-rule}
+use Rattle.demands.proofs.OrderedMap.{ordered-map}
+use Rattle.demands.proofs.Counts.{counts-within}
+use Rattle.demands.proofs.Breaks.{breaks-after}
+use Rattle.demands.proofs.OtherMemory.{wrong-table-refused}
+
+-- Demand 2 at the page.
+pub page-ordered-map : OrderedMap page
+page-ordered-map = ordered-map page page-depth
+
+-- Demand 3 at the page.
+pub page-cost-rule : CostRule page
+page-cost-rule = cost-rule page page-depth
+
+-- The sound tables and stores of the page are exactly the written-out valid plain trees.
+pub page-sound-is-written : SoundIsWritten page
+page-sound-is-written = sound-is-written page page-depth
+
+-- A search of any list of calls on what layout left visits at most 6 nodes and examines at most 26 places.
+pub page-counts : CountsWithin page 6 26
+page-counts = counts-within page page-cost-rule
+
+-- On any memory, a seventh node breaks a walk.
+pub page-breaks : BreaksAfter page 6
+page-breaks = breaks-after page
+
+-- The hub's table lent to a call of the page is refused by 1.
+pub page-refuses-hub : RefusesTableOf page hub
+page-refuses-hub table store words = wrong-table-refused page table store (λ same. omega arith)

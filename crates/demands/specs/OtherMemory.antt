@@ -1,0 +1,34 @@
+-- Memory of one index lent to a call of another: M-101 of document 02, "1 .. use the limits of the index called".
+use mathlib.Core.List.{List, []}
+use mathlib.Core.Path.{_≡_}
+use Prim.Native.Nat.{ℕ}
+use lib.ListN.{length}
+use Rattle.types.specs.declared.Limits.{Limits}
+use Rattle.types.specs.Sizes.{tableLength}
+use Rattle.types.specs.Answers.{refused}
+use Rattle.labels.specs.Labels.{Label}
+use Rattle.tables.specs.Outcomes.{Outcome, Listing, layoutOutcome, searchOutcome, insertOutcome, deleteOutcome}
+use Rattle.tables.specs.Outcomes.{checkOutcome, listingOutcome, viewOutcome, viewPart}
+
+-- refused by 1, with all lent memory as it was
+abbrev pub wrongTable : (table store : List ℕ) → Outcome
+wrongTable table store = record { answer = refused 1; memory = record { table = table; store = store } }
+
+abbrev pub wrongTableFor : (list : List ℕ) → Listing
+wrongTableFor list = record { answer = refused 1; list = list }
+
+-- what each of the eight calls says and leaves
+pub record AllRefused (limits : Limits) (table store : List ℕ) : Type 0 where
+  pub layout : layoutOutcome limits table store ≡ wrongTable table store
+  pub search : (x : Label) → searchOutcome limits table store x ≡ refused 1
+  pub insert : (x : Label) (value : ℕ) → insertOutcome limits table store x value ≡ wrongTable table store
+  pub delete : (x : Label) → deleteOutcome limits table store x ≡ wrongTable table store
+  pub check : checkOutcome limits table store ≡ refused 1
+  pub listing : (list : List ℕ) → listingOutcome limits table store list ≡ wrongTableFor list
+  pub view : (k : ℕ) → viewOutcome limits table store k ≡ refused 1
+  pub part : (k : ℕ) → viewPart limits table store k ≡ []
+
+-- The claim: each call of an index refuses another's table by 1, whatever it and the store hold.
+abbrev pub RefusesTableOf : (called other : Limits) → Type 0
+RefusesTableOf called other =
+    (table store : List ℕ) → length table ≡ tableLength other → AllRefused called table store
