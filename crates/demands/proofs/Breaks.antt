@@ -1,7 +1,7 @@
 -- Where a walk breaks, on any memory.
 -- breaks-after: a walk that would visit more nodes than the depth is broken.
 use mathlib.Core.List.{List}
-use mathlib.Core.Path.{_≡_, refl, ap}
+use mathlib.Core.Path.{_≡_, refl}
 use mathlib.Core.Bool.{Bool, true, false, _||_}
 use Prim.Native.Nat.{ℕ, zero, suc, _<_}
 use native.Mathlib.Omega.{arith}

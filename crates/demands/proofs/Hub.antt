@@ -1,7 +1,7 @@
 -- The claims at the hub's limits: 512 labels of at most 64 bytes.
 -- hub-ordered-map, hub-cost-rule, hub-sound-is-written: demand 2, demand 3, and what sound tables are.
--- hub-counts: a search visits at most 12 nodes and examines at most 76 places. hub-breaks: one node more breaks a walk.
--- hub-refuses-page: the page's table is refused by 1.
+-- hub-counts: a search visits at most 12 nodes and examines at most 76 places.
+-- hub-breaks: one node more breaks a walk. hub-refuses-page: the page's table is refused by 1.
 use native.Mathlib.Omega.{arith}
 use Rattle.types.specs.Sizes.{hub, page}
 use Rattle.tables.proofs.Depths.{hub-depth}

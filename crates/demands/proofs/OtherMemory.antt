@@ -2,7 +2,7 @@
 -- wrong-table-refused: each call refuses a table of another length by 1.
 use mathlib.Core.List.{List}
 use mathlib.Core.Path.{_≡_, refl}
-use mathlib.Core.Bool.{Bool, true, false, not}
+use mathlib.Core.Bool.{Bool, not}
 use Prim.Native.Nat.{ℕ}
 use lib.Dec.{eqb}
 use lib.ListN.{length}
@@ -28,12 +28,12 @@ module _ (limits : Limits) (table store : List ℕ) (other : length table ≡ ta
   unfolding searchOutcome checkOutcome viewOutcome viewPart listingOutcome layoutOutcome updateOutcome insertOutcome
       deleteOutcome
   wrong-table-refused = record {
-    layout = rw (first-refused);
-    search = λ x. rw (first-refused);
-    insert = λ x value. rw (first-refused);
-    delete = λ x. rw (first-refused);
-    check = rw (first-refused);
-    listing = λ list. rw (first-refused);
-    view = λ k. rw (first-refused);
-    part = λ k. rw (first-refused);
+    layout = rw first-refused;
+    search = λ x. rw first-refused;
+    insert = λ x value. rw first-refused;
+    delete = λ x. rw first-refused;
+    check = rw first-refused;
+    listing = λ list. rw first-refused;
+    view = λ k. rw first-refused;
+    part = λ k. rw first-refused;
   }

@@ -1,7 +1,7 @@
 -- The claims at the page's limits: 32 labels of at most 20 bytes.
 -- page-ordered-map, page-cost-rule, page-sound-is-written: demand 2, demand 3, and what sound tables are.
--- page-counts: a search visits at most 6 nodes and examines at most 26 places. page-breaks: one node more breaks a walk.
--- page-refuses-hub: the hub's table is refused by 1.
+-- page-counts: a search visits at most 6 nodes and examines at most 26 places.
+-- page-breaks: one node more breaks a walk. page-refuses-hub: the hub's table is refused by 1.
 use native.Mathlib.Omega.{arith}
 use Rattle.types.specs.Sizes.{hub, page}
 use Rattle.tables.proofs.Depths.{page-depth}

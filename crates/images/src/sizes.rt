@@ -5,6 +5,7 @@ pub struct Sizes {
     pub depth: usize,
 }
 
+// The hub's.
 pub fn hub() -> Sizes {
     Sizes {
         slots: 512,

@@ -1,5 +1,5 @@
-// The label index of the hub, and in `page` that of the pairing page: every call takes the lent memory at any length and
-// with any content, and refuses by the paper's numbers. A refused call has changed nothing.
+// The label index of the hub, and in `page` that of the pairing page: every call takes the lent memory at any length
+// and with any content, and refuses by the paper's numbers. A refused call has changed nothing.
 pub mod page;
 
 use types::DoneAnswer;

@@ -24,7 +24,8 @@ pub fn layout(table: &mut [u16], store: &mut [u8]) -> DoneAnswer
 
 // Searches for a label by the search steps, with both counts. Refused by 1 to 5.
 pub fn search(table: &[u16], store: &[u8], label: &[u8]) -> SearchAnswer
-    ensures { λ r. ⌜ searchSays r ≡ searchOutcome page (now (table .entry)) (now (store .entry)) (now (label .entry)) ⌝ }
+    ensures { λ r. ⌜
+        searchSays r ≡ searchOutcome page (now (table .entry)) (now (store .entry)) (now (label .entry)) ⌝ }
 {
     search::walks::search_within(types::page(), table, store, label)
 }

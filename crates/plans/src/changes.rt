@@ -8,8 +8,9 @@ use std::num::wrapping_add_usize;
 use std::num::wrapping_sub_usize;
 
 // The kinds of change: one word, two or three at once; one byte; two rows exchanged; a link between the tree and the
-// freed slots; a link back to a node above, or to a freed slot earlier in the chain.
-pub const KINDS: usize = 7;
+// freed slots; a link back to a node above, or to a freed slot earlier in the chain; a path on one side alone, of as
+// many nodes as a walk may visit, one less or one more.
+pub const KINDS: usize = 8;
 
 pub const BYTE: usize = 3;
 
@@ -18,6 +19,8 @@ pub const ROWS: usize = 4;
 pub const FREED: usize = 5;
 
 pub const CYCLE: usize = 6;
+
+pub const PATH: usize = 7;
 
 // An entry of the image, and what is written there.
 struct Written {
@@ -39,6 +42,9 @@ fn word_to(word: usize, to: usize) -> Written {
 
 // How many changes of a kind are made on a table of a shape.
 pub fn times(shape: usize, kind: usize) -> usize {
+    if kind == PATH {
+        return 60;
+    }
     if shape == shapes::ROSTER {
         return 150;
     }
@@ -66,6 +72,7 @@ fn writes(kind: usize) -> usize {
         1 => 2,
         2 => 3,
         ROWS => 16,
+        PATH => 53,
         _ => 1,
     }
 }
@@ -87,6 +94,7 @@ fn write(image: &Image, kind: usize, seed: u64, j: usize) -> Written {
         ROWS => row_write(image, seed, j),
         FREED => freed_write(image, seed),
         CYCLE => cycle_write(image, seed),
+        PATH => path_write(image, seed, j),
         _ => word_write(image, numbers::mixed_seed(seed, j)),
     }
 }
@@ -228,4 +236,45 @@ fn son_or_self(image: &Image, slot: usize, side: usize) -> usize {
         return son;
     }
     slot
+}
+
+// The root's link, then four words of each node of a path from slot 1 on.
+fn path_write(image: &Image, seed: u64, j: usize) -> Written {
+    if j == 0 {
+        return word_to(memory::ROOT, 1);
+    }
+    let fewer = wrapping_sub_usize(memory::entry(image, memory::DEPTH), 1);
+    let end = wrapping_add_usize(fewer, numbers::below(seed, 3));
+    let side = numbers::below(numbers::next(seed), 2);
+    let node = (j - 1) / 4 + 1;
+    if node > end {
+        return word_to(65535, 0);
+    }
+    node_write(node, (j - 1) % 4, side, end)
+}
+
+// A word of a node that sends every walk on to the next slot, with no place read: its place is 2, and a walk that has
+// read none stands at 1 on both sides.
+fn node_write(node: usize, j: usize, side: usize, end: usize) -> Written {
+    match j {
+        0 => slot_write(node, onward(side), next_node(node, end)),
+        1 => slot_write(node, memory::PLACE, 2),
+        2 => slot_write(node, memory::SIDE, side),
+        _ => slot_write(node, memory::LENGTH, 1),
+    }
+}
+
+// The link that a walk takes at a node of a side whose place it has not reached.
+fn onward(side: usize) -> usize {
+    match side {
+        0 => memory::RIGHT,
+        _ => memory::LEFT,
+    }
+}
+
+fn next_node(node: usize, end: usize) -> usize {
+    if node < end {
+        return wrapping_add_usize(node, 1);
+    }
+    0
 }

@@ -14,8 +14,9 @@ use std::num::wrapping_sub_usize;
 
 pub const GROUPS: usize = 14;
 
-// The ways of a group: case 11 of the paper, by the index's sizes; all labels of a shape inserted, searched and deleted,
-// in order, in reverse or in steps of 333; calls drawn from a generator; some labels inserted, then twelve deleted.
+// The ways of a group: case 11 of the paper, by the index's sizes; all labels of a shape inserted, searched and
+// deleted, in order, in reverse or in steps of 333; calls drawn from a generator; some labels inserted, then twelve
+// deleted.
 pub const CASE: usize = 0;
 
 pub const IN_ORDER: usize = 1;

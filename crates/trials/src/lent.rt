@@ -9,6 +9,9 @@ use reports::tallies::Tally;
 use samples::calls::LISTING;
 use samples::shapes;
 
+// A slot in use: the roster's second label.
+const SLOT: usize = 2;
+
 pub fn run(image: &Image) {
     let tally = listings(image, lend(image));
     tallies::print_lengths(memory::is_page(image), shapes::ROSTER, tally);
@@ -36,7 +39,7 @@ fn lent(image: &Image, k: usize, tally: Tally) -> Tally {
 // Makes a call on memory lent at some lengths; counts it, and the lengths where they are not the index's own.
 fn tried(image: &Image, copy: &Image, call: usize, label: &[u8], tally: Tally) -> Tally {
     let counted = tallies::one_more_if(tally, CHANGES, !memory::same(image, copy));
-    damage::tried(copy, call, label, 1, counted)
+    damage::tried(copy, call, label, SLOT, counted)
 }
 
 // Listings into lists of each length.

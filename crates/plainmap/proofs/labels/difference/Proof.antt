@@ -1,4 +1,4 @@
--- `plainmap::labels::difference` is safe and ends. The loop's invariant: its counter stays within its range. The
+-- `plainmap::labels::difference` is safe and ends. The loop's invariant: its counter is not below its start. The
 -- measure is what is left of the range. Assumes nothing.
 use Prim.Native.Nat.{_≤_, _-_}
 use borrow.Author.Needs.{needs}
