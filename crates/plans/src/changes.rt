@@ -57,7 +57,7 @@ pub fn times(shape: usize, kind: usize) -> usize {
 
 // Makes a change on a copy of the memory; whether it is one of its kind.
 pub fn make(image: &Image, copy: &mut Image, kind: usize, seed: u64) -> bool {
-    let n = writes(kind);
+    let n = writes(image, kind);
     for j in 0..n {
         let written = write(image, kind, seed, j);
         memory::put(copy, written.entry, written.to);
@@ -65,14 +65,14 @@ pub fn make(image: &Image, copy: &mut Image, kind: usize, seed: u64) -> bool {
     memory::unlike(image, copy) >= differing(kind)
 }
 
-// How many entries a change writes.
-fn writes(kind: usize) -> usize {
+// How many entries a change writes, at most.
+fn writes(image: &Image, kind: usize) -> usize {
     match kind {
         0 => 1,
         1 => 2,
         2 => 3,
         ROWS => 16,
-        PATH => 53,
+        PATH => 4 * (memory::entry(image, memory::DEPTH) % 65) + 5,
         _ => 1,
     }
 }
