@@ -35,7 +35,7 @@ CountsWithin limits visits places =
     (afterList limits calls (layoutOutcome limits table store .memory) .store) x)
 
 -- The claim, on words and bytes of any content: a walk that would visit more than so many nodes, were it let visit any
--- number, is broken; of the page, "its seventh node breaks a walk" (M-101 of document 02).
+-- number, is broken; so none visits more. Of the page, "its seventh node breaks a walk" (M-101 of document 02).
 abbrev pub BreaksAfter : Limits → ℕ → Type 0
 BreaksAfter limits visits =
     (table store : List ℕ) (x : Label) (any : ℕ)

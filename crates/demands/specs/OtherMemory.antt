@@ -14,6 +14,7 @@ use Rattle.tables.specs.Outcomes.{checkOutcome, listingOutcome, viewOutcome, vi
 abbrev pub wrongTable : (table store : List ℕ) → Outcome
 wrongTable table store = record { answer = refused 1; memory = record { table = table; store = store } }
 
+-- the same of a listing, with its list as it was
 abbrev pub wrongTableFor : (list : List ℕ) → Listing
 wrongTableFor list = record { answer = refused 1; list = list }
 

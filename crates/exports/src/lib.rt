@@ -1,8 +1,8 @@
-// The label index for other languages: numbers and slices in, the answer packed in one number. `include/strap_index.h`
-// names these calls for C. A slice passes as its pointer and its length. Any length and any content is taken, and each
-// call answers as the index does. A caller in another language owes what the language asks of every caller here: each
-// pointer reaches as many words or bytes as its length says, the lent parts do not overlap, and they live, unchanged by
-// others, through the call.
+// The hub's label index for other languages: numbers and slices in, the answer packed in one number.
+// `include/strap_index.h` names these calls for C. A slice passes as its pointer and its length. Any length and any
+// content is taken, and each call answers as the index does. A caller in another language owes what the language asks
+// of every caller here: each pointer reaches as many words or bytes as its length says, the lent parts do not overlap,
+// and they live, unchanged by others, through the call.
 use types::DoneAnswer;
 ghost use mathlib.Core.Path.{_≡_};
 ghost use Rattle.types.specs.Sizes.{hub};

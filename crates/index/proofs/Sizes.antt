@@ -16,10 +16,10 @@ at-hub limits same = rw same (record { slots = omega arith; width = omega arith;
 pub edits-at-hub : (limits : Limits) → limits ≡ hub → EditsFit limits
 edits-at-hub limits same = rw same (record { fit = at-hub hub refl; deepest = hub-depth })
 
--- So do the page's.
+-- The page's limits fit machine words.
 pub at-page : (limits : Limits) → limits ≡ page → LimitsFit limits
 at-page limits same = rw same (record { slots = omega arith; width = omega arith; depth = omega arith })
 
--- So is the page's.
+-- The page's depth is the deepest that its slots allow.
 pub edits-at-page : (limits : Limits) → limits ≡ page → EditsFit limits
 edits-at-page limits same = rw same (record { fit = at-page page refl; deepest = page-depth })
