@@ -8,7 +8,7 @@ static void compare_search(const struct workload *w, const uint8_t *x, size_t n)
     const struct index *index = w->index;
     uint64_t said = index->search(w->table, index->words, w->store, index->bytes, x, n);
     uint64_t value = strap_kind_of(said) == STRAP_FOUND ? (uint64_t)strap_value_of(said) + 1 : 0;
-    uint64_t whole = index->whole_counts(w->table, w->store, x, n);
+    uint64_t whole = index->whole_counts(w->table, w->folded_store, x, n);
     if (strap_kind_of(said) == STRAP_REFUSED)
         fail("a search was refused");
     if (said != index->digital_search(w->table, index->words, w->store, index->bytes, x, n))
@@ -16,7 +16,7 @@ static void compare_search(const struct workload *w, const uint8_t *x, size_t n)
     if (strap_kind_of(whole) != strap_kind_of(said) || strap_visits_of(whole) != strap_visits_of(said) ||
         strap_places_of(whole) < strap_places_of(said))
         fail("the search with whole labels goes another way");
-    if (value != index->whole_search(w->table, w->store, x, n) ||
+    if (value != index->whole_search(w->table, w->folded_store, x, n) ||
         value != array_search(w->entries, w->labels.count, x, n) || value != map_search(w->map, x, n) ||
         value != btree_search(w->btree, x, n))
         fail("the contestants' answers differ");
@@ -73,9 +73,11 @@ static void see_sound(const struct index *index, const uint16_t *table, const ui
 
 static void compare_update(const struct update *u)
 {
+    static uint8_t folded_store[BYTES];
     update(u);
     see_sound(u->index, u->table, u->store);
-    if (u->index->whole_search(u->table, u->store, u->label, u->n) != (u->inserts ? (uint64_t)u->value + 1 : 0))
+    fold(folded_store, u->store, u->index->bytes);
+    if (u->index->whole_search(u->table, folded_store, u->label, u->n) != (u->inserts ? (uint64_t)u->value + 1 : 0))
         fail("an update left another answer");
 }
 

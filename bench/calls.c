@@ -130,6 +130,47 @@ static void refusals(void)
     refuses("6, listing", listing(SLOTS), STRAP_NOT_SOUND);
 }
 
+/* The slot's label is viewed, and is spelled so. */
+static void shows(const char *what, size_t slot, const char *label)
+{
+    uint64_t said = view(slot);
+    says(what, said, STRAP_VIEWED, (unsigned)(WIDTH * (slot - 1)), (unsigned)strlen(label));
+    if (memcmp(store + WIDTH * (slot - 1), label, strlen(label)) != 0)
+        says(what, 0, STRAP_VIEWED, (unsigned)(WIDTH * (slot - 1)), (unsigned)strlen(label));
+}
+
+/* Capital and small letters are one, and the spelling first stored is kept; no other two bytes are one. */
+static void spellings(void)
+{
+    uint64_t said;
+    layout();
+    says("insert anna", insert("anna", 10), STRAP_UPDATED, 1, 0);
+    refuses("7, Anna", insert("Anna", 20), STRAP_ALREADY_HELD);
+    says("search ANNA", said = search("ANNA"), STRAP_FOUND, 1, 10);
+    counts("search ANNA", said, 1, 5);
+    shows("the first spelling", 1, "anna");
+    says("insert BEN", insert("BEN", 30), STRAP_UPDATED, 2, 0);
+    says("search ben", search("ben"), STRAP_FOUND, 2, 30);
+    says("check of both", check(), STRAP_DONE, 0, 0);
+    says("delete aNNA", delete("aNNA"), STRAP_UPDATED, 1, 0);
+    says("search anna, deleted", search("anna"), STRAP_ABSENT, 0, 0);
+    says("insert Anna", insert("Anna", 40), STRAP_UPDATED, 1, 0);
+    shows("the new spelling", 1, "Anna");
+    says("search anna", search("anna"), STRAP_FOUND, 1, 40);
+    says("insert @", insert("@", 1), STRAP_UPDATED, 3, 0);
+    says("insert `", insert("`", 2), STRAP_UPDATED, 4, 0);
+    says("insert [", insert("[", 3), STRAP_UPDATED, 5, 0);
+    says("insert {", insert("{", 4), STRAP_UPDATED, 6, 0);
+    says("insert byte 192", insert("\300", 5), STRAP_UPDATED, 7, 0);
+    says("insert byte 224", insert("\340", 6), STRAP_UPDATED, 8, 0);
+    says("search Z", search("Z"), STRAP_ABSENT, 0, 0);
+    says("check of eight", check(), STRAP_DONE, 0, 0);
+    says("listing of eight", listing(SLOTS), STRAP_LISTED, 8, 0);
+    static const uint16_t order[] = {3, 5, 4, 1, 2, 6, 7, 8};
+    if (memcmp(list, order, sizeof order) != 0)
+        says("the order of eight", 0, STRAP_LISTED, 8, 0);
+}
+
 /* A full table, its first and last slot, and one label more. */
 static void full(void)
 {
@@ -151,6 +192,7 @@ int each_call(void)
 {
     answers();
     refusals();
+    spellings();
     full();
     return failed;
 }

@@ -17,7 +17,7 @@ void print_workloads(void)
             uint64_t said = w->index->search(w->table, w->index->words, w->store, w->index->bytes, x, n);
             visits += strap_visits_of(said);
             digital += strap_places_of(said);
-            whole += strap_places_of(w->index->whole_counts(w->table, w->store, x, n));
+            whole += strap_places_of(w->index->whole_counts(w->table, w->folded_store, x, n));
         }
         printf("%d\tseries\t%s\n%d\tname\t%s\n", number, w->series, number, w->name);
         if (w->table_name != NULL)

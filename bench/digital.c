@@ -33,18 +33,11 @@ uint64_t digital_search(const uint16_t *table, size_t words, const uint8_t *stor
             continue;
         }
         const uint8_t *held = store + WIDTH * (link - 1);
-        size_t end = n < len ? n : len;
         size_t i = d - 1;
-        while (i < end && label[i] == held[i])
-            i++;
+        int larger = is_larger(label, n, held, len, &i);
         places += i + 2 - d;
-        int larger;
-        if (i < end)
-            larger = label[i] > held[i];
-        else if (n == len)
+        if (larger < 0)
             return pack(STRAP_FOUND, places, visits, link, row[6]);
-        else
-            larger = n > len;
         if (larger)
             p = i + 1;
         else

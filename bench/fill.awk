@@ -3,6 +3,7 @@
 #   {table SERIES; HEADING=FIGURE; ..}   a table in Markdown, a row for each member of the series
 #   {points SERIES; FIGURE; ..}          the same for bench/draw: bare numbers, tabs between
 #   {range SERIES; FIGURE}               the least and the greatest
+#   {each SERIES; FIGURE}                one of each member, in words
 #   {behind KIND}                        on how many of the nine workloads each contestant is behind the index, in words
 #   {counts KIND}                        the same in short
 #   {value OF; FIGURE}                   one figure
@@ -54,6 +55,12 @@ function range(series, what,   i, v, least, most) {
     return from_to(least, most)
 }
 
+function each(series, what,   i, text) {
+    for (i = 1; i <= size[series]; i++)
+        text = text (i == 1 ? "" : i < size[series] ? ", " : " and ") shown(list[series, i], what)
+    return text
+}
+
 function many(n, of,   word) {
     split("one two three four five six seven eight nine", word, " ")
     return n == 0 ? "none" : (n == of ? "all " : "") (n in word ? word[n] : n)
@@ -88,6 +95,7 @@ function filled(text,   command, columns, n) {
     if (command == "table") return table(columns[1], columns, n)
     if (command == "points") return points(columns[1], columns, n)
     if (command == "range") return range(columns[1], columns[2])
+    if (command == "each") return each(columns[1], columns[2])
     if (command == "behind") return behind(columns[1])
     if (command == "counts") return counts(columns[1])
     if (command == "value") return shown(columns[1], columns[2])

@@ -23,10 +23,17 @@ size_t below(size_t n)
     return next() % n;
 }
 
+static bool spell_one(const uint8_t *a, const uint8_t *b, size_t n)
+{
+    size_t i = 0;
+    return is_larger(a, n, b, n, &i) < 0;
+}
+
+/* Whether a list has the label, in any spelling. */
 static bool holds(const struct labels *l, const uint8_t *x, size_t n)
 {
     for (size_t i = 0; i < l->count; i++)
-        if (l->at[i].len == n && memcmp(l->at[i].bytes, x, n) == 0)
+        if (l->at[i].len == n && spell_one(l->at[i].bytes, x, n))
             return true;
     return false;
 }
@@ -39,16 +46,28 @@ static void add(struct labels *l, const uint8_t *x, size_t n)
     l->count++;
 }
 
-void random_labels(struct labels *l, size_t count, size_t shared, size_t least, size_t most)
+static uint8_t any_byte(void)
 {
+    return (uint8_t)next();
+}
+
+static uint8_t any_letter(void)
+{
+    size_t i = below(52);
+    return (uint8_t)(i < 26 ? 'A' + i : 'a' + i - 26);
+}
+
+void random_labels(struct labels *l, size_t count, bool letters, size_t shared, size_t least, size_t most)
+{
+    uint8_t (*any)(void) = letters ? any_letter : any_byte;
     uint8_t x[WIDTH];
     l->count = 0;
     for (size_t i = 0; i < shared; i++)
-        x[i] = (uint8_t)next();
+        x[i] = any();
     while (l->count < count) {
         size_t n = shared + least + below(most - least + 1);
         for (size_t i = shared; i < n; i++)
-            x[i] = (uint8_t)next();
+            x[i] = any();
         if (!holds(l, x, n))
             add(l, x, n);
     }
@@ -81,6 +100,17 @@ void held_queries(struct labels *q, const struct labels *l)
     }
 }
 
+void respelled_queries(struct labels *q, const struct labels *l)
+{
+    held_queries(q, l);
+    for (size_t k = 0; k < q->count; k++)
+        for (size_t i = 0; i < q->at[k].len; i++) {
+            uint8_t *byte = q->at[k].bytes + i, small = number_of[*byte];
+            if (small >= 'a' && small <= 'z')
+                *byte ^= 'a' - 'A';
+        }
+}
+
 void changed_queries(struct labels *q, const struct labels *l, bool last)
 {
     q->count = 0;
@@ -101,7 +131,7 @@ void other_queries(struct labels *q, const struct labels *l, size_t least, size_
         uint8_t x[WIDTH];
         size_t n = least + below(most - least + 1);
         for (size_t i = 0; i < n; i++)
-            x[i] = (uint8_t)next();
+            x[i] = any_byte();
         if (!holds(l, x, n))
             add(q, x, n);
     }

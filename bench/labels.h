@@ -21,8 +21,9 @@ void seed(uint64_t number);
 /* A random number below n. */
 size_t below(size_t n);
 
-/* Labels of `shared` bytes in common, then `least` to `most` random ones. */
-void random_labels(struct labels *l, size_t count, size_t shared, size_t least, size_t most);
+/* Labels of `shared` bytes in common, then `least` to `most` random ones: any bytes, or letters of both cases. No two
+ * spell one name. */
+void random_labels(struct labels *l, size_t count, bool letters, size_t shared, size_t least, size_t most);
 
 /* Names in alphabetical order, from the even or the odd given names. */
 void roster(struct labels *l, size_t first);
@@ -30,10 +31,13 @@ void roster(struct labels *l, size_t first);
 /* Labels of a list. */
 void held_queries(struct labels *q, const struct labels *l);
 
-/* Labels of a list with the last byte changed, or one of the first four: none is in the list. */
+/* Labels of a list, the case of every letter exchanged. */
+void respelled_queries(struct labels *q, const struct labels *l);
+
+/* Labels of a list with the last byte changed, or one of the first four: none is in the list, in any spelling. */
 void changed_queries(struct labels *q, const struct labels *l, bool last);
 
-/* Labels of `least` to `most` random bytes, none in the list. */
+/* Labels of `least` to `most` random bytes, none in the list, in any spelling. */
 void other_queries(struct labels *q, const struct labels *l, size_t least, size_t most);
 
 #endif

@@ -1,4 +1,4 @@
-// C++ std::map from label to value, searched without making a string.
+// C++ std::map from folded label to value. The label sought is folded once, and searched without making a string.
 #include "bench.h"
 #include <functional>
 #include <map>
@@ -19,12 +19,18 @@ extern "C" void *map_new(void)
 
 extern "C" void map_insert(void *map, const uint8_t *label, size_t n, uint16_t value)
 {
-    static_cast<Map *>(map)->emplace(view(label, n), value);
+    uint8_t held[WIDTH];
+    fold(held, label, n);
+    static_cast<Map *>(map)->emplace(view(held, n), value);
 }
 
 extern "C" uint64_t map_search(const void *map, const uint8_t *label, size_t n)
 {
     const Map *m = static_cast<const Map *>(map);
-    auto at = m->find(view(label, n));
+    uint8_t sought[WIDTH];
+    if (n > WIDTH)
+        return 0;
+    fold(sought, label, n);
+    auto at = m->find(view(sought, n));
     return at == m->end() ? 0 : uint64_t(at->second) + 1;
 }

@@ -61,11 +61,12 @@ function derive_searches(series,   i, c, w) {
     }
 }
 
-# The bar of each search, and the times.
-function derive_named(series,   i, c, w) {
+# Each search beside the C, with a bar where one is set, and the times.
+function derive_named(series, limited,   i, c, w) {
     for (i = 1; i <= size[series]; i++) {
         w = list[series, i]
-        bar(w, "index", "C, same method", get("bar", "search"), 0)
+        if (limited) bar(w, "index", "C, same method", get("bar", "search"), 0)
+        else compare(w, "index", "C, same method")
         figure[w, "index time"] = spread(w, "index", get(w, "index ns"), "%.0f")
         for (c = 1; c <= contestants; c++) derive_ratios(w, contestant[c])
     }
@@ -88,14 +89,16 @@ $2 == "series" { list[$3, ++size[$3]] = $1; next }
 END {
     if (size["nine"] != 9 || size["page"] != 2 || size["tables"] != 4 || size["page tables"] != 1)
         stop("a workload is missing")
-    if (size["held"] != 10 || size["common"] != 15)
+    if (size["spelling"] != 2 || size["held"] != 10 || size["common"] != 15)
         stop("a workload is missing")
     derive_searches("nine")
     derive_searches("page")
+    derive_searches("spelling")
     derive_searches("held")
     derive_searches("common")
-    derive_named("nine")
-    derive_named("page")
+    derive_named("nine", 1)
+    derive_named("page", 1)
+    derive_named("spelling", 0)
     for (i = 1; i <= size["tables"]; i++) {
         w = list["tables", i]
         factor = get("bar", get(w, "table") ~ /sharing/ ? "alike" : "other")

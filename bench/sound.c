@@ -37,11 +37,18 @@ static bool zero_words(const uint16_t *words, size_t from, size_t to)
 static size_t ascend(const uint8_t *a, size_t m, const uint8_t *b, size_t n)
 {
     size_t end = m < n ? m : n, i = 0;
-    while (i < end && a[i] == b[i])
+    for (;;) {
+        while (i < end && a[i] == b[i])
+            i++;
+        if (i == end)
+            return m < n ? i + 1 : 0;
+        uint8_t x = number_of[a[i]], y = number_of[b[i]];
         i++;
-    if (i < end)
-        return a[i] < b[i] ? i + 1 : 0;
-    return m < n ? i + 1 : 0;
+        if (x < y)
+            return i;
+        if (x > y)
+            return 0;
+    }
 }
 
 /* The subtree at a link between the slots below and above: its height, or -1; its nodes are added to the count. */

@@ -4,22 +4,27 @@
 #include <stdlib.h>
 #include <string.h>
 
-/* Labels: their name, seed (0 for the roster) and number, the bytes in common, and the random bytes after those. */
+/* Labels: their name, seed (0 for the roster) and number, the bytes in common, the random bytes after those, and
+ * whether all are letters. */
 struct group {
     const char *name;
     uint64_t seed;
     size_t count, shared, least, most;
+    bool letters;
 };
 
-enum sought { HELD, EARLY, LATE, OTHERS };
+enum sought { HELD, EARLY, LATE, OTHERS, RESPELLED };
 
-static const char *const sought_name[] = {"held", "absent, parting early", "absent, parting late", "absent"};
+static const char *const sought_name[] = {"held", "absent, parting early", "absent, parting late", "absent",
+                                          "sought in the other case"};
 
-static const struct group alike = {"512 labels sharing 40 bytes", 20, 512, 40, 8, 24};
-static const struct group brief = {"512 labels of 1 to 8 random bytes", 21, 512, 0, 1, 8};
-static const struct group few = {"32 labels of 20 random bytes", 22, 32, 0, 20, 20};
-static const struct group few_of_page = {"the page's 32 labels of 20 random bytes", 22, 32, 0, 20, 20};
-static const struct group names = {"roster of 384 names entered in order", 0, 384, 0, 0, 0};
+static const struct group alike = {"512 labels sharing 40 bytes", 20, 512, 40, 8, 24, false};
+static const struct group brief = {"512 labels of 1 to 8 random bytes", 21, 512, 0, 1, 8, false};
+static const struct group few = {"32 labels of 20 random bytes", 22, 32, 0, 20, 20, false};
+static const struct group few_of_page = {"the page's 32 labels of 20 random bytes", 22, 32, 0, 20, 20, false};
+static const struct group names = {"roster of 384 names entered in order", 0, 384, 0, 0, 0, false};
+static const struct group letters = {"512 labels sharing 40 letters", 23, 512, 40, 8, 24, true};
+static const struct group same_letters = {"the same", 23, 512, 40, 8, 24, true};
 
 static const struct {
     const struct index *index;
@@ -29,6 +34,7 @@ static const struct {
     {&hub, &alike, HELD},        {&hub, &alike, EARLY},        {&hub, &alike, LATE}, {&hub, &brief, HELD},
     {&hub, &brief, OTHERS},      {&hub, &few, HELD},           {&hub, &few, OTHERS}, {&hub, &names, HELD},
     {&hub, &names, OTHERS},      {&page, &few_of_page, HELD},  {&page, &few_of_page, OTHERS},
+    {&hub, &letters, HELD},      {&hub, &same_letters, RESPELLED},
 };
 
 void fail(const char *what)
@@ -48,7 +54,7 @@ static void draw_labels(struct labels *l, const struct group *g)
     if (g == &names)
         roster(l, 0);
     else
-        random_labels(l, g->count, g->shared, g->least, g->most);
+        random_labels(l, g->count, g->letters, g->shared, g->least, g->most);
 }
 
 static void draw_queries(struct labels *q, const struct labels *l, const struct group *g, enum sought sought)
@@ -56,6 +62,8 @@ static void draw_queries(struct labels *q, const struct labels *l, const struct 
     static struct labels others;
     if (sought == HELD) {
         held_queries(q, l);
+    } else if (sought == RESPELLED) {
+        respelled_queries(q, l);
     } else if (sought != OTHERS) {
         changed_queries(q, l, sought == LATE);
     } else if (g == &names) {
@@ -80,12 +88,13 @@ static void enter(struct workload *w)
         uint64_t said = x->insert(w->table, x->words, w->store, x->bytes, label, n, value_at(i));
         if (strap_kind_of(said) != STRAP_UPDATED || strap_slot_of(said) != i + 1)
             fail("insert refused");
-        memcpy(w->entries[i].label, label, WIDTH);
+        fold(w->entries[i].label, label, WIDTH);
         w->entries[i].len = (uint16_t)n;
         w->entries[i].value = value_at(i);
         map_insert(w->map, label, n, value_at(i));
         btree_insert(w->btree, label, n, value_at(i));
     }
+    fold(w->folded_store, w->store, x->bytes);
     array_sort(w->entries, w->labels.count);
 }
 
@@ -106,10 +115,14 @@ static struct workload *made(const struct index *index, const char *series, cons
 static struct workload *one_named(int number)
 {
     const struct group *g = named[number].group;
-    const char *series = number < NINE ? "nine" : "page";
-    struct workload *w = made(named[number].index, series, g, named[number].sought, 50 + (uint64_t)number);
-    snprintf(w->name, sizeof w->name, "%s, %s", g->name, sought_name[named[number].sought]);
-    if (named[number].sought == HELD)
+    enum sought sought = named[number].sought;
+    bool spelling = number >= NINE + PAGES;
+    const char *series = number < NINE ? "nine" : spelling ? "spelling" : "page";
+    /* What is respelled is what the workload before seeks. */
+    uint64_t drawn = 50 + (uint64_t)number - (sought == RESPELLED);
+    struct workload *w = made(named[number].index, series, g, sought, drawn);
+    snprintf(w->name, sizeof w->name, "%s, %s", g->name, sought_name[sought]);
+    if (sought == HELD && !spelling)
         w->table_name = g->name;
     return w;
 }
@@ -125,7 +138,7 @@ static struct workload *with_held(size_t many)
 /* 512 labels of 8 bytes after so many in common. */
 static struct workload *with_common(size_t many)
 {
-    struct group g = {NULL, 77, SLOTS, many, 8, 8};
+    struct group g = {NULL, 77, SLOTS, many, 8, 8, false};
     return made(&hub, "common", &g, HELD, 50);
 }
 

@@ -4,6 +4,8 @@
  * Build a library with `rt staticlib exports` or `rt staticlib page_exports`, and link target/staticlib/libexports.a,
  * libpage_exports.a or both (x86-64 Linux).
  *
+ * Labels are compared with A to Z as a to z, and kept as they were first spelled.
+ *
  * A lent part (table, store, label, list) passes as its pointer and its length in elements. Any length and any content
  * is taken: a call answers, or refuses by a number below; a refused call has changed nothing. The contracts stand in
  * crates/exports/src/lib.rt and crates/page_exports/src/lib.rt, and crates/packs/specs/Packed.antt defines the packing.
@@ -46,7 +48,7 @@ enum strap_refusal {
     STRAP_WRONG_SLOT = 11,  /* slot 0 or above its slots, or the length word there is 0 or above its width: the view */
     STRAP_BROKEN_WALK = 5,  /* the walk met a link or a row that cannot be: search */
     STRAP_NOT_SOUND = 6,    /* table and store are not sound: insert, delete, check, listing */
-    STRAP_ALREADY_HELD = 7, /* the label is held already: insert */
+    STRAP_ALREADY_HELD = 7, /* the label is held already, in this or another spelling: insert */
     STRAP_NOT_HELD = 8,     /* the label is not held: delete */
     STRAP_FULL = 9,         /* as many labels are held as it has slots: insert */
     STRAP_SHORT_LIST = 10   /* list shorter than the labels held: listing */

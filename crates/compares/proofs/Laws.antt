@@ -1,26 +1,25 @@
--- The comparison of two labels, by runs over the places from an index.
--- `rest-start`: at the start all is left.
--- `one-unlike`, `one-alike`: a run over one place.  `run-short`, `run-both`: two runs in turn are one.
--- `stops-from`, `passes-from`, `ends-from`: where a loop's run stops short, leaves the rest, or a label ends.
--- `from-end`, `from-stop`, `from-on`: the whole comparison, by its first place.
+-- The comparison of two labels, by what is left at an index.
+-- `rest-start`: at the start all is left.  `four-same`: four bytes that both have leave it to the index after them.
+-- `passes`, `stops-smaller`, `stops-larger`: bytes of one number leave it to the next index, others end it.
+-- `ends-from`: the end of a label ends it.
+-- `place-end`, `place-smaller`, `place-larger`, `place-next`: the same of the whole comparison, at a place reached.
+-- `first-end`, `first-other-end`, `first-smaller`, `first-larger`, `first-same`: at the first place.
 use Prim.Native.Nat.{ℕ, suc, _+_, _-_, _≤_, _<_, min, compare}
-use mathlib.Core.Path.{_≡_, sym, _∙_}
-use mathlib.Core.Bool.{Bool, true, false, cond}
+use mathlib.Core.Path.{_≡_, refl, sym, _∙_}
+use mathlib.Core.Bool.{Bool, true, false, cond, false≢true}
 use native.Mathlib.Numerals.{add-one}
 use native.Mathlib.Omega.{arith}
-use lib.Dec.{ltb, leb}
+use lib.Dec.{eqb}
 use lib.ListN.{length, getD, drop, drop-of-length-le}
 use lib.Seq.{drop-cons}
-use borrow.Author.Tests.{lt-ltb, le-ltb, leb-true}
-use Rattle.labels.specs.Labels.{Label, Comparison}
-use Rattle.labels.specs.Labels.{numberOf, compareNumbers, compareAt, compareFrom}
-use Rattle.labels.proofs.Numbers.{ordered, Ltb, lt-yes, lt-no, ltb-view}
-use Rattle.orders.specs.Orders.{comparisonBy, differ, unlike, atEnd}
+use borrow.Author.Tests.{eqb-true, lt-ltb}
+use Rattle.labels.specs.Labels.{Label, Comparison, numberOf, compareNumbers, compareAt, compareFrom}
+use Rattle.labels.proofs.Numbers.{Ltb, lt-yes, lt-no, ltb-view}
+use Rattle.orders.specs.Orders.{comparisonBy, byNumbers, atEnd}
 use Rattle.orders.specs.declared.Order.{Order}
 use Rattle.orders.specs.declared.Order.the-variants.{Smaller, Same, Larger}
-use Rattle.orders.proofs.OrderLaws.{compare-unlike, compare-equal}
-use Rattle.compares.specs.Compares.{rest, restAfter, HavePlaces}
-use Rattle.compares.specs.declared.Run.{Run}
+use Rattle.orders.proofs.OrderLaws.{decided, compare-decided, same-bytes}
+use Rattle.compares.specs.Compares.{rest, SameFour}
 
 -- at the start all is left
 pub rest-start : (d : ℕ) (x y : Label) → 1 ≤ d → rest x y (d - 1) ≡ compareFrom d x y
@@ -46,106 +45,135 @@ module _ (x y : Label) (i : ℕ) where
       go (lt-no p) (lt-yes q) = rw (drop-cons y i 0, drop-of-length-le x)
       go (lt-no p) (lt-no q) = rw (drop-of-length-le x, drop-of-length-le y)
 
--- one place: whether the bytes at index i differ has been tested
-module _ (x y : Label) (i : ℕ) (tested : Bool) (e : tested ≡ differ (getD x i 0) (getD y i 0))
-    (have : HavePlaces 1 x y i) where
-  -- different numbers end the comparison
-  pub one-unlike : (o : Order) → tested ≡ true → o ≡ unlike (getD x i 0) (getD y i 0)
-      → restAfter 1 x y i (record { order = o; same = 0 }) ≡ rest x y i
-  unfolding restAfter differ unlike
-  one-unlike o is order =
-      let m = numberOf (getD x i 0) in
-      let n = numberOf (getD y i 0) in
-      let found = compare-unlike {m = m} {n = n} (suc i) (rest x y (suc i)) (ordered m n) (sym e ∙ is) in
-      let at : i + 0 + 1 ≡ suc i = omega arith in
-      rw (at, order) (sym found ∙ sym (rest-both x y i (omega arith) (omega arith)))
+module _ (x y : Label) (i : ℕ) (more : i < length x) (also : i < length y) where
+  -- the order by the bytes at index i says how the comparison goes on
+  by-order : decided (byNumbers (getD x i 0) (getD y i 0)) (suc i) (rest x y (suc i)) ≡ rest x y i
+  by-order =
+      sym (compare-decided (getD x i 0) (getD y i 0) (suc i) (rest x y (suc i))) ∙ sym (rest-both x y i more also)
 
-  -- equal numbers leave the rest
-  pub one-alike : tested ≡ false → restAfter 1 x y i (record { order = Same; same = 1 }) ≡ rest x y i
-  unfolding restAfter differ
-  one-alike is =
-      let m = numberOf (getD x i 0) in
-      let n = numberOf (getD y i 0) in
-      let left = compare-equal {m = m} {n = n} (suc i) (rest x y (suc i)) (ordered m n) (sym e ∙ is) in
-      rw add-one (sym left ∙ sym (rest-both x y i (omega arith) (omega arith)))
+  -- a byte that both have leaves it to the next index
+  next-same : getD x i 0 ≡ getD y i 0 → rest x y (suc i) ≡ rest x y i
+  next-same same = rw (← same-bytes (getD x i 0) (getD y i 0) same) at by-order
 
--- a run over n places from index i
-module _ (n : ℕ) (x y : Label) (i : ℕ) (t : Run) (so : restAfter n x y i t ≡ rest x y i) where
-  -- where it stops short, it has the order and the place
-  pub run-stops : t .same < n → comparisonBy (t .order) (i + t .same + 1) ≡ rest x y i
-  unfolding restAfter
-  run-stops less = rw (lt-ltb _ _ less) at so
+-- a test of four bytes that has failed, and one that is left to the fourth byte
+pub unlike-four : (x y : Label) (i : ℕ) → SameFour false x y i
+unlike-four x y i =
+    record {
+      first = λ is. absurd (false≢true is);
+      second = λ is. absurd (false≢true is);
+      third = λ is. absurd (false≢true is);
+      fourth = λ is. absurd (false≢true is);
+    }
 
-  -- where it does not, the rest is left
-  pub run-passes : n ≤ t .same → rest x y (i + n) ≡ rest x y i
-  unfolding restAfter
-  run-passes all = rw (le-ltb _ _ all) at so
+pub test-four : (x y : Label) (i : ℕ) → getD x i 0 ≡ getD y i 0 → getD x (i + 1) 0 ≡ getD y (i + 1) 0
+    → getD x (i + 2) 0 ≡ getD y (i + 2) 0 → SameFour (eqb (getD x (i + 3) 0) (getD y (i + 3) 0)) x y i
+test-four x y i first second third =
+    record { first = λ is. first; second = λ is. second; third = λ is. third; fourth = λ is. eqb-true _ _ is }
 
-  -- where it stops short, so does a longer run
-  pub run-short : (k : ℕ) → leb n k ≡ true → t .same < n → restAfter k x y i t ≡ rest x y i
-  unfolding restAfter
-  run-short k longer less =
-      let more = leb-true n k longer in let far : t .same < k = omega arith in rw (lt-ltb _ _ far) (run-stops less)
+-- four bytes that both labels have leave it to the index after them
+pub four-same : (x y : Label) (i j end : ℕ) (found : Bool) → end ≡ min (length x) (length y) → i + 4 ≤ end
+    → SameFour found x y i → found ≡ true → rest x y i ≡ rest x y j → rest x y (i + 4) ≡ rest x y j
+four-same x y i j end found short long test is so =
+    let one : i + 1 ≡ suc i = omega arith in
+    let two : i + 2 ≡ suc (i + 1) = omega arith in
+    let three : i + 3 ≡ suc (i + 2) = omega arith in
+    let four : i + 4 ≡ suc (i + 3) = omega arith in
+    let first = next-same x y i (omega arith) (omega arith) (test .first is) in
+    let second = next-same x y (i + 1) (omega arith) (omega arith) (test .second is) in
+    let third = next-same x y (i + 2) (omega arith) (omega arith) (test .third is) in
+    let fourth = next-same x y (i + 3) (omega arith) (omega arith) (test .fourth is) in
+    (rw (← four) at fourth) ∙ (rw (← three) at third) ∙ (rw (← two) at second) ∙ (rw (← one) at first) ∙ so
 
-  -- two runs in turn are one
-  pub run-both : (m k : ℕ) (u : Run) → restAfter m x y (i + n) u ≡ rest x y (i + n) → k ≡ n + m → n ≤ t .same
-      → restAfter k x y i (record { order = u .order; same = n + u .same }) ≡ rest x y i
-  unfolding restAfter
-  run-both m k u next sum all = rw sum (go (ltb-view (u .same) m) next)
-    where
-      go : {b : Bool} → Ltb (u .same) m b
-          → cond b (comparisonBy (u .order) (i + n + u .same + 1)) (rest x y (i + n + m)) ≡ rest x y (i + n)
-          → cond (ltb (n + u .same) (n + m)) (comparisonBy (u .order) (i + (n + u .same) + 1)) (rest x y (i + (n + m)))
-          ≡ rest x y i
-      go (lt-yes less) found =
-          let far : n + u .same < n + m = omega arith in
-          let at : i + (n + u .same) + 1 ≡ i + n + u .same + 1 = omega arith in
-          rw (lt-ltb _ _ far, at) (found ∙ run-passes all)
-      go (lt-no more) found =
-          let far : n + m ≤ n + u .same = omega arith in
-          let at : i + (n + m) ≡ i + n + m = omega arith in
-          rw (le-ltb _ _ far, at) (found ∙ run-passes all)
+-- where what is left at index i is what was left at index j, and both labels have the byte there
+module _ (x y : Label) (i j end : ℕ) (so : rest x y i ≡ rest x y j) (short : end ≡ min (length x) (length y))
+    (more : i < end) (o : Order) (order : o ≡ byNumbers (getD x i 0) (getD y i 0)) where
+  by-tested : decided o (suc i) (rest x y (suc i)) ≡ rest x y j
+  by-tested = rw order (by-order x y i (omega arith) (omega arith) ∙ so)
+
+  -- bytes of one number leave it to the next index
+  pub passes : o ≡ Same → rest x y (i + 1) ≡ rest x y j
+  passes is = rw add-one (rw is at by-tested)
+
+  -- others end it
+  pub stops-smaller : o ≡ Smaller → comparisonBy o (i + 1) ≡ rest x y j
+  stops-smaller is = rw (add-one, is) (rw is at by-tested)
+
+  pub stops-larger : o ≡ Larger → comparisonBy o (i + 1) ≡ rest x y j
+  stops-larger is = rw (add-one, is) (rw is at by-tested)
 
 -- the end of a label ends the comparison
 pub end-left : (x y : Label) (i end : ℕ) (o : Order) → end ≡ min (length x) (length y) → end ≤ i
     → o ≡ atEnd (length x) (length y) i → comparisonBy o (i + 1) ≡ rest x y i
 end-left x y i end o short over e = rw (add-one, e) (sym (rest-ended x y i (omega arith)))
 
--- where the rest at index i is the rest at index j
-module _ (x y : Label) (i j : ℕ) (so : rest x y i ≡ rest x y j) where
-  -- a run over n places that stops short ends the comparison
-  pub stops-from : (n : ℕ) (t : Run) → restAfter n x y i t ≡ rest x y i → t .same < n
-      → comparisonBy (t .order) (i + t .same + 1) ≡ rest x y j
-  stops-from n t e less = run-stops n x y i t e less ∙ so
+-- where what is left at index i is what was left at index j, the end of a label ends it
+pub ends-from : (x y : Label) (i j end : ℕ) → rest x y i ≡ rest x y j → end ≡ min (length x) (length y) → (o : Order)
+    → end ≤ i → o ≡ atEnd (length x) (length y) i → comparisonBy o (i + 1) ≡ rest x y j
+ends-from x y i j end so short o over e = end-left x y i end o short over e ∙ so
 
-  -- one that does not leaves the rest
-  pub passes-from : (n k : ℕ) (t : Run) → restAfter n x y i t ≡ rest x y i → n ≤ t .same → k ≡ i + n
-      → rest x y k ≡ rest x y j
-  passes-from n k t e all sum = rw sum (run-passes n x y i t e all ∙ so)
-
-  -- so does the end of a label
-  pub ends-from : (end : ℕ) (o : Order) → end ≡ min (length x) (length y) → end ≤ i → o ≡ atEnd (length x) (length y) i
-      → comparisonBy o (i + 1) ≡ rest x y j
-  ends-from end o short over e = end-left x y i end o short over e ∙ so
-
--- a comparison that starts at place d, whose index is d - 1
-module _ (d : ℕ) (x y : Label) (positive : 1 ≤ d) where
+-- a place that was reached from place d, whose index is one less
+module _ (x y : Label) (place d end : ℕ) (positive : 1 ≤ d) (reached : d ≤ place)
+    (so : rest x y (place - 1) ≡ compareFrom d x y) (short : end ≡ min (length x) (length y)) (o : Order) where
   -- a label ends there
-  pub from-end : (end : ℕ) (o : Order) → end ≡ min (length x) (length y) → end ≤ d - 1
-      → o ≡ atEnd (length x) (length y) (d - 1) → comparisonBy o d ≡ compareFrom d x y
-  from-end end o short over e =
-      let at : d - 1 + 1 ≡ d = omega arith in
-      (rw at at (end-left x y (d - 1) end o short over e)) ∙ rest-start d x y positive
+  pub place-end : end < place → o ≡ atEnd (length x) (length y) (place - 1) → comparisonBy o place ≡ compareFrom d x y
+  place-end over e =
+      let at : place - 1 + 1 ≡ place = omega arith in
+      (rw at at (end-left x y (place - 1) end o short (omega arith) e)) ∙ so
 
-  module _ (t : Run) (so : restAfter 1 x y (d - 1) t ≡ rest x y (d - 1)) where
-    -- the labels part there
-    pub from-stop : t .same < 1 → comparisonBy (t .order) d ≡ compareFrom d x y
-    from-stop less =
-        let at : d - 1 + t .same + 1 ≡ d = omega arith in
-        (rw at at (run-stops 1 x y (d - 1) t so less)) ∙ rest-start d x y positive
+  -- by the order of the bytes there
+  module _ (within : place ≤ end) (order : o ≡ byNumbers (getD x (place - 1) 0) (getD y (place - 1) 0)) where
+    pub place-smaller : o ≡ Smaller → comparisonBy o place ≡ compareFrom d x y
+    place-smaller is =
+        let at : place - 1 + 1 ≡ place = omega arith in
+        (rw at at (stops-smaller x y (place - 1) (place - 1) end refl short (omega arith) o order is)) ∙ so
 
-    -- the places after it decide
-    pub from-on : (c : Comparison) → 1 ≤ t .same → c ≡ rest x y d → c ≡ compareFrom d x y
-    from-on c all e =
-        let at : d - 1 + 1 ≡ d = omega arith in
-        e ∙ (rw at at (run-passes 1 x y (d - 1) t so all)) ∙ rest-start d x y positive
+    pub place-larger : o ≡ Larger → comparisonBy o place ≡ compareFrom d x y
+    place-larger is =
+        let at : place - 1 + 1 ≡ place = omega arith in
+        (rw at at (stops-larger x y (place - 1) (place - 1) end refl short (omega arith) o order is)) ∙ so
+
+    pub place-next : o ≡ Same → rest x y (place + 1 - 1) ≡ compareFrom d x y
+    place-next is =
+        let at : place - 1 + 1 ≡ place + 1 - 1 = omega arith in
+        (rw at at (passes x y (place - 1) (place - 1) end refl short (omega arith) o order is)) ∙ so
+
+-- a label that goes on where the other may end is the larger
+longer-at-end : (m n i : ℕ) → i < m → Larger ≡ atEnd m n i
+unfolding atEnd
+longer-at-end m n i more = rw (lt-ltb i m more)
+
+-- the first place
+module _ (x y : Label) (d : ℕ) (positive : 1 ≤ d) where
+  -- x ends there, or y alone
+  pub first-end : (o : Order) → length x ≤ d - 1 → o ≡ atEnd (length x) (length y) (d - 1)
+      → comparisonBy o d ≡ compareFrom d x y
+  first-end o over =
+      place-end x y d d (min (length x) (length y)) positive (omega arith) (rest-start d x y positive) refl o
+      (omega arith)
+
+  pub first-other-end : d - 1 < length x → length y ≤ d - 1 → comparisonBy Larger d ≡ compareFrom d x y
+  first-other-end more over =
+      place-end x y d d (min (length x) (length y)) positive (omega arith) (rest-start d x y positive) refl Larger
+      (omega arith) (longer-at-end (length x) (length y) (d - 1) more)
+
+  -- by the order of the bytes there
+  module _ (o : Order) (more : d - 1 < length x) (also : d - 1 < length y)
+      (order : o ≡ byNumbers (getD x (d - 1) 0) (getD y (d - 1) 0)) where
+    pub first-smaller : o ≡ Smaller → comparisonBy o d ≡ compareFrom d x y
+    first-smaller =
+        place-smaller x y d d (min (length x) (length y)) positive (omega arith) (rest-start d x y positive) refl o
+        (omega arith) order
+
+    pub first-larger : o ≡ Larger → comparisonBy o d ≡ compareFrom d x y
+    first-larger =
+        place-larger x y d d (min (length x) (length y)) positive (omega arith) (rest-start d x y positive) refl o
+        (omega arith) order
+
+    -- bytes of one number leave it to the places after it
+    pub first-same : (i : ℕ) (c : Comparison) → o ≡ Same → rest x y i ≡ rest x y d → c ≡ rest x y i
+        → c ≡ compareFrom d x y
+    first-same i c is so e =
+        let at : d + 1 - 1 ≡ d = omega arith in
+        let next = place-next x y d d (min (length x) (length y)) positive (omega arith) (rest-start d x y positive)
+        refl o (omega arith) order is in
+        e ∙ so ∙ (rw at at next)

@@ -1,13 +1,11 @@
 -- What a comparison in code says, in the terms of the definition; where it may start, and where it ends.
 use Prim.Native.Nat.{ℕ, suc, _+_, _≤_, min}
 use mathlib.Core.Path.{_≡_}
-use mathlib.Core.Bool.{cond}
-use lib.ListN.{length, drop}
-use lib.Dec.{ltb}
+use mathlib.Core.Bool.{Bool, true}
+use lib.ListN.{length, getD, drop}
 use Rattle.labels.specs.Labels.{Label, Comparison, compareAt}
 use Rattle.orders.specs.Orders.{comparisonBy}
 use Rattle.compares.specs.declared.Compared.{Compared}
-use Rattle.compares.specs.declared.Run.{Run}
 
 -- the comparison that an answer stands for
 abbrev pub comparisonOf : Compared → Comparison
@@ -17,19 +15,27 @@ comparisonOf r = comparisonBy (r .order) (r .place)
 unfoldable pub rest : Label → Label → ℕ → Comparison
 rest x y i = compareAt (suc i) (drop i x) (drop i y)
 
--- what is left at index i, by a run over the n places from there: its order where it stops short, and else the rest
-unfoldable pub restAfter : (n : ℕ) → Label → Label → (i : ℕ) → Run → Comparison
-restAfter n x y i t = cond (ltb (t .same) n) (comparisonBy (t .order) (i + t .same + 1)) (rest x y (i + n))
-
 -- both labels have the n places from index i
 pub record HavePlaces (n : ℕ) (x y : Label) (i : ℕ) : Type 0 where
   pub first : i + n ≤ length x
   pub second : i + n ≤ length y
 
+-- a test of four bytes at index i of two labels, true only where they are the same
+pub record SameFour (found : Bool) (x y : Label) (i : ℕ) : Type 0 where
+  pub first : found ≡ true → getD x i 0 ≡ getD y i 0
+  pub second : found ≡ true → getD x (i + 1) 0 ≡ getD y (i + 1) 0
+  pub third : found ≡ true → getD x (i + 2) 0 ≡ getD y (i + 2) 0
+  pub fourth : found ≡ true → getD x (i + 3) 0 ≡ getD y (i + 3) 0
+
 -- the shorter label ends at `end`, and y has index i, or ends there
 pub record EndsAt (x y : Label) (i end : ℕ) : Type 0 where
   pub short : end ≡ min (length x) (length y)
   pub within : i ≤ length y
+
+-- an index after `from`, or itself, and not after the end of the label y
+pub record StaysWithin (from : ℕ) (y : Label) (i : ℕ) : Type 0 where
+  pub low : from ≤ i
+  pub high : i ≤ length y
 
 -- a comparison with the label y may start at place d: y has that place, or ends there
 pub record StartsWithin (d : ℕ) (y : Label) : Type 0 where

@@ -1,22 +1,17 @@
-// The comparison of two labels from a place on, by the numbers that their bytes stand for. `compare` reads the byte at
-// each place once, in order, and none after the place at which it ends. The crate `eights` has one that reads further.
+// The comparison of two labels from a place on, by the numbers that their bytes stand for: `compare` for a search,
+// which passes over bytes that are the same and reads no table, and `by_table` for an update. Neither reads a byte past
+// the place at which it ends; the crate `eights` has one that does.
 use orders::Order;
 ghost use mathlib.Core.Path.{_≡_};
-ghost use Prim.Native.Nat.{_+_, _≤_, min};
+ghost use Prim.Native.Nat.{_+_, min};
 ghost use Rattle.labels.specs.Labels.{compareFrom};
-ghost use Rattle.compares.specs.Compares.{comparisonOf, rest, restAfter};
-ghost use Rattle.compares.specs.Compares.{StartsWithin, EndsWithin, EndsAt, HavePlaces};
+ghost use Rattle.compares.specs.Compares.{comparisonOf, rest, HavePlaces, SameFour};
+ghost use Rattle.compares.specs.Compares.{StartsWithin, EndsWithin, EndsAt, StaysWithin};
 
 // The order of two labels, and the place at which their comparison ended: the difference place or the shared end's.
 pub struct Compared {
     pub order: Order,
     pub place: usize,
-}
-
-// How two labels run over some places in turn: so many alike, and their order where they part before the last.
-pub struct Run {
-    pub order: Order,
-    pub same: usize,
 }
 
 // The smaller of two lengths.
@@ -26,57 +21,41 @@ pub fn shorter(one: usize, other: usize) -> usize
     if one < other { one } else { other }
 }
 
-// The place at the index i.
-fn one(x: &[u8], y: &[u8], i: usize) -> Run
-    requires { ⌜ HavePlaces 1 (now x) (now y) i ⌝ }
-    ensures { λ r. ⌜ restAfter 1 (now (x .entry)) (now (y .entry)) i r ≡ rest (now (x .entry)) (now (y .entry)) i ⌝ }
-    ensures { λ r. ⌜ r .same ≤ 1 ⌝ }
+// Whether both labels have the same four bytes from index i on, each tested before the next is read.
+fn same_four(x: &[u8], y: &[u8], i: usize) -> bool
+    requires { ⌜ HavePlaces 4 (now x) (now y) i ⌝ }
+    ensures { λ r. ⌜ SameFour r (now (x .entry)) (now (y .entry)) i ⌝ }
 {
-    let a = x[i];
-    let b = y[i];
-    if orders::differ(a, b) {
-        let order = orders::unlike(a, b);
-        return Run { order, same: 0 };
+    if x[i] != y[i] {
+        return false;
     }
-    Run {
-        order: Order::Same,
-        same: 1,
+    if x[i + 1] != y[i + 1] {
+        return false;
     }
+    if x[i + 2] != y[i + 2] {
+        return false;
+    }
+    x[i + 3] == y[i + 3]
 }
 
-// The two places from the index i on.
-fn two(x: &[u8], y: &[u8], i: usize) -> Run
-    requires { ⌜ HavePlaces 2 (now x) (now y) i ⌝ }
-    ensures { λ r. ⌜ restAfter 2 (now (x .entry)) (now (y .entry)) i r ≡ rest (now (x .entry)) (now (y .entry)) i ⌝ }
-    ensures { λ r. ⌜ r .same ≤ 2 ⌝ }
+// The first of the indices from, from + 4 and on where four bytes are not the same, or not left; the shorter label ends
+// at `end`.
+fn past_fours(x: &[u8], y: &[u8], from: usize, end: usize) -> usize
+    requires { ⌜ EndsAt (now x) (now y) from end ⌝ }
+    ensures { λ r. ⌜ rest (now (x .entry)) (now (y .entry)) r ≡ rest (now (x .entry)) (now (y .entry)) from ⌝ }
+    ensures { λ r. ⌜ StaysWithin from (now (y .entry)) r ⌝ }
 {
-    let former = one(x, y, i);
-    if former.same < 1 {
-        return former;
+    let mut i = from;
+    while i + 4 <= end {
+        if !same_four(x, y, i) {
+            return i;
+        }
+        i += 4;
     }
-    let latter = one(x, y, i + 1);
-    let order = latter.order;
-    let same = 1 + latter.same;
-    Run { order, same }
+    i
 }
 
-// The three places from the index i on.
-fn three(x: &[u8], y: &[u8], i: usize) -> Run
-    requires { ⌜ HavePlaces 3 (now x) (now y) i ⌝ }
-    ensures { λ r. ⌜ restAfter 3 (now (x .entry)) (now (y .entry)) i r ≡ rest (now (x .entry)) (now (y .entry)) i ⌝ }
-    ensures { λ r. ⌜ r .same ≤ 3 ⌝ }
-{
-    let former = two(x, y, i);
-    if former.same < 2 {
-        return former;
-    }
-    let latter = one(x, y, i + 2);
-    let order = latter.order;
-    let same = 2 + latter.same;
-    Run { order, same }
-}
-
-// How x lies to y by the places after the index from, one by one; the shorter label ends at `end`.
+// How x lies to y from the index from on, place by place; the shorter label ends at `end`. Unlike bytes are folded.
 pub fn by_one(x: &[u8], y: &[u8], from: usize, end: usize) -> Compared
     requires { ⌜ EndsAt (now x) (now y) from end ⌝ }
     ensures { λ r. ⌜ comparisonOf r ≡ rest (now (x .entry)) (now (y .entry)) from ⌝ }
@@ -84,54 +63,103 @@ pub fn by_one(x: &[u8], y: &[u8], from: usize, end: usize) -> Compared
 {
     let mut i = from;
     while i < end {
-        let run = one(x, y, i);
-        if run.same < 1 {
-            let order = run.order;
-            let place = i + run.same + 1;
-            return Compared { order, place };
+        let order = orders::by_letters(x[i], y[i]);
+        let place = i + 1;
+        match order {
+            Order::Smaller => {
+                return Compared { order, place };
+            }
+            Order::Same => {
+                i = place;
+            }
+            Order::Larger => {
+                return Compared { order, place };
+            }
         }
-        i += 1;
     }
     let order = orders::at_end(x.len(), y.len(), i);
     let place = i + 1;
     Compared { order, place }
 }
 
-// The same, by threes as long as both labels have them.
-fn by_three(x: &[u8], y: &[u8], from: usize, end: usize) -> Compared
+// The same for a search: unlike bytes are folded only where they do not show the order.
+fn onward(x: &[u8], y: &[u8], from: usize, end: usize) -> Compared
     requires { ⌜ EndsAt (now x) (now y) from end ⌝ }
     ensures { λ r. ⌜ comparisonOf r ≡ rest (now (x .entry)) (now (y .entry)) from ⌝ }
     ensures { λ r. ⌜ EndsWithin (from + 1) (now (y .entry)) (r .place) ⌝ }
 {
     let mut i = from;
-    while i + 3 <= end {
-        let run = three(x, y, i);
-        if run.same < 3 {
-            let order = run.order;
-            let place = i + run.same + 1;
-            return Compared { order, place };
+    while i < end {
+        let order = orders::by_sight(x[i], y[i]);
+        let place = i + 1;
+        match order {
+            Order::Smaller => {
+                return Compared { order, place };
+            }
+            Order::Same => {
+                i = place;
+            }
+            Order::Larger => {
+                return Compared { order, place };
+            }
         }
-        i += 3;
     }
-    by_one(x, y, i, end)
+    let order = orders::at_end(x.len(), y.len(), i);
+    let place = i + 1;
+    Compared { order, place }
 }
 
-// How x lies to y by the places from d on. Most comparisons of a search end at place d: it is tested before the threes.
+// How x lies to y by the places from d on. Most comparisons of a search end at place d: it is tested by itself.
 pub fn compare(x: &[u8], y: &[u8], d: usize) -> Compared
     requires { ⌜ StartsWithin d (now y) ⌝ }
     ensures { λ r. ⌜ comparisonOf r ≡ compareFrom d (now (x .entry)) (now (y .entry)) ⌝ }
     ensures { λ r. ⌜ EndsWithin d (now (y .entry)) (r .place) ⌝ }
 {
     let first = d - 1;
-    let end = shorter(x.len(), y.len());
-    if end <= first {
+    if x.len() <= first {
         let order = orders::at_end(x.len(), y.len(), first);
         return Compared { order, place: d };
     }
-    let run = one(x, y, first);
-    if run.same < 1 {
-        let order = run.order;
-        return Compared { order, place: d };
+    if y.len() <= first {
+        return Compared {
+            order: Order::Larger,
+            place: d,
+        };
     }
-    by_three(x, y, d, end)
+    let order = orders::by_sight(x[first], y[first]);
+    match order {
+        Order::Smaller => Compared { order, place: d },
+        Order::Same => {
+            let end = shorter(x.len(), y.len());
+            let i = past_fours(x, y, d, end);
+            onward(x, y, i, end)
+        }
+        Order::Larger => Compared { order, place: d },
+    }
+}
+
+// The same, place by place, each byte read once, by the numbers in the table.
+pub fn by_table(x: &[u8], y: &[u8], d: usize) -> Compared
+    requires { ⌜ StartsWithin d (now y) ⌝ }
+    ensures { λ r. ⌜ comparisonOf r ≡ compareFrom d (now (x .entry)) (now (y .entry)) ⌝ }
+    ensures { λ r. ⌜ EndsWithin d (now (y .entry)) (r .place) ⌝ }
+{
+    let end = shorter(x.len(), y.len());
+    let mut place = d;
+    while place <= end {
+        let order = orders::by_table(x[place - 1], y[place - 1]);
+        match order {
+            Order::Smaller => {
+                return Compared { order, place };
+            }
+            Order::Same => {
+                place += 1;
+            }
+            Order::Larger => {
+                return Compared { order, place };
+            }
+        }
+    }
+    let order = orders::at_end(x.len(), y.len(), place - 1);
+    Compared { order, place }
 }

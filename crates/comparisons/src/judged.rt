@@ -45,9 +45,26 @@ fn update_fault(found: &Image, left: &Image, call: usize, label: &[u8], entry: u
     let after = memory::word(left, memory::HELD);
     let met = outcomes::on_sound(left, SEARCH, label);
     if call == INSERT {
+        if !stands(left, packing::one(entry), label) {
+            return faults::MEMORY;
+        }
         return inserted_fault(entry, met, wrapping_add_usize(before, 1) == after);
     }
     deleted_fault(met, before == wrapping_add_usize(after, 1))
+}
+
+// Whether a slot's bytes begin with a label's, in its spelling.
+fn stands(image: &Image, slot: usize, label: &[u8]) -> bool {
+    for j in 0..label.len() {
+        if memory::byte(image, slot, j) != wide(label[j]) {
+            return false;
+        }
+    }
+    true
+}
+
+fn wide(x: u8) -> usize {
+    x as usize
 }
 
 // One label more, which a search finds in the slot, with the value.

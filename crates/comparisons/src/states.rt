@@ -57,10 +57,10 @@ fn listed(image: &Image, map: &Lists, i: usize) -> bool {
     memory::field(image, word, memory::VALUE) == plainmap::value_of(map, word)
 }
 
-// Whether a label is the map's in a slot.
+// Whether a label is the map's in a slot, byte by byte.
 pub fn spells(map: &Lists, slot: usize, label: &[u8]) -> bool {
     if label.len() != plainmap::length_of(map, slot) {
         return false;
     }
-    plainmap::labels::difference(map, slot, label) == 0
+    plainmap::labels::begins_with(map, slot, label)
 }

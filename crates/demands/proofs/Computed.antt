@@ -1,11 +1,12 @@
 -- What the definitions give on small lists of calls at the hub's limits, by computation.
 -- after: the memory after calls on a fresh table. fair-one, fair-two: it is sound, and short labels fit.
+-- small-is-not-capital: "a" and "A" are not the same bytes.
 -- Shown, shown: what the calls on it answer and leave.
 use mathlib.Core.List.{List, [], _∷_}
-use mathlib.Core.Path.{_≡_, refl}
+use mathlib.Core.Path.{_≡_, refl, ap}
 use Prim.Native.Nat.{ℕ}
 use native.Mathlib.Omega.{arith}
-use lib.ListN.{replicate, length-replicate}
+use lib.ListN.{getD, replicate, length-replicate}
 use Rattle.types.specs.declared.Row.{Row}
 use Rattle.types.specs.Sizes.{hub, tableLength, storeLength}
 use Rattle.types.specs.Answers.{Answer, found, absent, updated, listed, done, refused}
@@ -18,7 +19,7 @@ use Rattle.tables.specs.Steps.{isBad, searchSteps}
 use Rattle.tables.specs.Sound.{wordsAndBytes, counted, soundAs, sound, stateOf}
 use Rattle.tables.specs.Outcomes.{Outcome, searchOutcome, layoutOutcome, updateOutcome, listingOutcome}
 use Rattle.cases.specs.Cases.{a, b, c, three, laidOut}
-use Rattle.tables.specs.Claims.{LabelFits}
+use Rattle.tables.specs.Claims.{labelIn, LabelFits}
 use Rattle.demands.specs.Counts.{afterList}
 use Rattle.demands.specs.Trials.{Fair}
 use Rattle.demands.specs.UpdateTrials.{lastNumbers}
@@ -61,6 +62,13 @@ onlyB = insert (b ∷ []) 10 ∷ []
 abbrev pub around : List Call
 around = insert (a ∷ b ∷ []) 1 ∷ insert (a ∷ a ∷ []) 2 ∷ insert (b ∷ []) 3 ∷ []
 
+-- "A", another spelling of "a"
+abbrev pub capital : Label
+capital = 65 ∷ []
+
+pub small-is-not-capital : _≡_ {A = Label} (a ∷ []) capital → ⊥
+small-is-not-capital same = let bytes : _≡_ {A = ℕ} 97 65 = ap (λ (x : Label). getD x 0 0) same in omega arith
+
 -- a label under "b": its new slot is 2, it has this side, and its search ended with both numbers at 1
 pub record UnderB (x : Label) (side : ℕ) : Type 0 where
   pub answer : next onlyB (insert x 20) .answer ≡ updated 2 1 1
@@ -101,6 +109,12 @@ pub record Shown : Type 0 where
   -- "aa" keeps its sons, none, when "ab" is deleted, and its place changes
   pub row-then : rowAt (after around .table) 2 ≡ rowOfAA 2
   pub row-after : rowAt (next around (delete (a ∷ b ∷ [])) .memory .table) 2 ≡ rowOfAA 1
+  -- "A" where "a" is held, and where nothing is
+  pub capital-held : searched onlyA capital ≡ found 1 5 1 2
+  pub capital-again : next onlyA (insert capital 9) .answer ≡ refused 7
+  pub shown-small : labelIn hub (after onlyA) 1 ≡ a ∷ []
+  pub capital-in : next [] (insert capital 5) .answer ≡ updated 1 0 0
+  pub shown-capital : labelIn hub (next [] (insert capital 5) .memory) 1 ≡ capital
 
 -- All of it holds by computation.
 pub shown : Shown
@@ -131,4 +145,9 @@ shown = record {
   right-of-b = record { answer = refl; its-side = refl; numbers = refl };
   row-then = refl;
   row-after = refl;
+  capital-held = refl;
+  capital-again = refl;
+  shown-small = refl;
+  capital-in = refl;
+  shown-capital = refl;
 }

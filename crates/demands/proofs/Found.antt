@@ -4,7 +4,7 @@ use mathlib.Core.Path.{_≡_, refl, sym, ap, _∙_}
 use Prim.Native.Nat.{ℕ}
 use Rattle.types.specs.declared.Limits.{Limits}
 use Rattle.types.specs.Answers.{found as found-with}
-use Rattle.labels.specs.Labels.{Label}
+use Rattle.labels.specs.Labels.{Label, Alike}
 use Rattle.labels.specs.Neighbours.{none-below, none-above}
 use Rattle.labels.proofs.Clashes.{clash}
 use Rattle.trees.specs.Trees.{Entry, NodeOf}
@@ -12,7 +12,7 @@ use Rattle.trees.specs.Heights.{Deepest}
 use Rattle.trees.specs.Searches.{Held, absent, found, fullSearch}
 use Rattle.trees.specs.Plain.{State, search}
 use Rattle.trees.specs.Valid.{Valid}
-use Rattle.trees.proofs.Searched.{found-label, found-node, node-found}
+use Rattle.trees.proofs.Searched.{found-alike, found-node, node-found}
 use Rattle.trees.proofs.Sorted.{between-of-ascends}
 use Rattle.tables.specs.Written.{written, writtenTable, writtenStore}
 use Rattle.tables.specs.Steps.{Walk, searchSteps}
@@ -47,19 +47,19 @@ module _ (limits : Limits) (deepest : Deepest (limits .slots) (limits .depth))
   -- It is answered found with the slot and the value of the node that has the label, and found nowhere else.
   pub finds-held : FindsHeld limits x (written limits s) (s .tree)
   finds-held = record {
-    held = λ e there labelled.
-        answered ∙ ap (λ (h : Held). answerOf h (visitsOf walk) (placesOf walk)) (node-sought e there labelled);
+    held = λ e there alike.
+        answered ∙ ap (λ (h : Held). answerOf h (visitsOf walk) (placesOf walk)) (node-sought e there alike);
     only = λ slot value visits places says. node-of slot value visits places (sym answered ∙ says);
   }
     where
-      node-sought : (e : Entry) → NodeOf e (s .tree) → e .label ≡ x → sought ≡ found e
-      node-sought e there labelled =
-          rw (← labelled) (node-found none-below none-above (between-of-ascends (s .tree) (valid .ascending)) there)
+      node-sought : (e : Entry) → NodeOf e (s .tree) → Alike x (e .label) → sought ≡ found e
+      node-sought e there alike =
+          node-found none-below none-above x (between-of-ascends (s .tree) (valid .ascending)) there alike
 
       node-of : (slot value visits places : ℕ)
           → answerOf sought (visitsOf walk) (placesOf walk) ≡ found-with slot value visits places
-          → (e : Entry) × NodeOf e (s .tree) × (e .label ≡ x) × (e .slot ≡ slot) × (e .value ≡ value)
+          → (e : Entry) × NodeOf e (s .tree) × Alike x (e .label) × (e .slot ≡ slot) × (e .value ≡ value)
       node-of slot value visits places says =
           let (e, held-so, slotted, valued) =
           found-only sought (visitsOf walk) (placesOf walk) slot value visits places says in
-          (e, found-node x (s .tree) held-so, sym (found-label x (s .tree) held-so), slotted, valued)
+          (e, found-node x (s .tree) held-so, found-alike x (s .tree) held-so, slotted, valued)

@@ -2,6 +2,7 @@
 -- hub-ordered-map, hub-cost-rule, hub-sound-is-written: demand 2, demand 3, and what sound tables are.
 -- hub-counts: a search visits at most 12 nodes and examines at most 76 places.
 -- hub-breaks: one node more breaks a walk. hub-refuses-page: the page's table is refused by 1.
+-- hub-one-name, hub-spelling-stays: spellings of one name.
 use native.Mathlib.Omega.{arith}
 use Rattle.types.specs.Sizes.{hub, page}
 use Rattle.tables.proofs.Depths.{hub-depth}
@@ -9,11 +10,14 @@ use Rattle.tables.specs.Claims.{SoundIsWritten, OrderedMap, CostRule}
 use Rattle.sounds.proofs.SoundIsWritten.{sound-is-written}
 use Rattle.demands.specs.Counts.{CountsWithin, BreaksAfter}
 use Rattle.demands.specs.OtherMemory.{RefusesTableOf}
+use Rattle.demands.specs.Spellings.{OneName, SpellingStays}
 use Rattle.demands.proofs.CostRule.{cost-rule}
 use Rattle.demands.proofs.OrderedMap.{ordered-map}
 use Rattle.demands.proofs.Counts.{counts-within}
 use Rattle.demands.proofs.Breaks.{breaks-after}
 use Rattle.demands.proofs.OtherMemory.{wrong-table-refused}
+use Rattle.demands.proofs.OneName.{one-name}
+use Rattle.demands.proofs.Spellings.{spelling-stays}
 
 -- Demand 2 at the hub.
 pub hub-ordered-map : OrderedMap hub
@@ -38,3 +42,10 @@ hub-breaks = breaks-after hub
 -- The page's table lent to a call of the hub is refused by 1.
 pub hub-refuses-page : RefusesTableOf hub page
 hub-refuses-page table store words = wrong-table-refused hub table store (λ same. omega arith)
+
+-- Capital and small letters name one player of the hub, and the spelling first stored stays.
+pub hub-one-name : OneName hub
+hub-one-name = one-name hub
+
+pub hub-spelling-stays : SpellingStays hub
+hub-spelling-stays = spelling-stays hub hub-depth

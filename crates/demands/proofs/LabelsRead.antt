@@ -1,15 +1,14 @@
 -- The labels of a represented tree are read back from its slots.
 -- label-read: so is the label of a node. labels-read: so are those of all nodes, from left to right.
--- found-read: so is the label of the node that a search finds, which is the label sought.
+-- found-in-slot: so is the label of the node that a search finds.
 use mathlib.Core.List.{_∷_, _++_, map, map-append}
-use mathlib.Core.Path.{_≡_, refl, sym, ap₂, _∙_}
+use mathlib.Core.Path.{_≡_, refl, ap₂}
 use Rattle.types.specs.declared.Limits.{Limits}
 use Rattle.labels.specs.Labels.{Label, Comparison, smaller, same, larger, compareLabels}
 use Rattle.labels.specs.Neighbours.{Neighbour, held}
 use Rattle.labels.proofs.Clashes.{clash}
 use Rattle.trees.specs.Trees.{Entry, Tree, empty, node, labels, slots}
 use Rattle.trees.specs.Searches.{found, Search, searchBy, fullSearch}
-use Rattle.trees.proofs.Searched.{found-label}
 use Rattle.tables.specs.Written.{Memory}
 use Rattle.tables.specs.Claims.{labelIn}
 use Rattle.tables.proofs.Represents.{NodeHeld, Represents}
@@ -42,15 +41,10 @@ module _ (limits : Limits) (m : Memory) where
     found-at-node d onLeft onRight here left right (larger i) e there = right e there
 
     -- The node that a search finds has its label in its slot.
-    found-in-slot : (p s : Neighbour) (t : Tree) → Represents limits (m .table) (m .store) p s t
+    pub found-in-slot : (p s : Neighbour) (t : Tree) → Represents limits (m .table) (m .store) p s t
         → FoundRead (fullSearch x t)
     found-in-slot p s empty there e held-so = clash cc
     found-in-slot p s (node l d r) (own, on-left, on-right) e held-so =
         found-at-node d (fullSearch x l) (fullSearch x r) (label-read own)
         (found-in-slot p (held (d .label)) l on-left) (found-in-slot (held (d .label)) s r on-right)
         (compareLabels x (d .label)) e held-so
-
-    -- The label in the slot of the node that a search finds is the label sought.
-    pub found-read : (p s : Neighbour) (t : Tree) → Represents limits (m .table) (m .store) p s t
-        → (e : Entry) → fullSearch x t .result ≡ found e → labelIn limits m (e .slot) ≡ x
-    found-read p s t there e held-so = found-in-slot p s t there e held-so ∙ sym (found-label x t held-so)

@@ -9,6 +9,9 @@ pub mod LabelsRead
 pub mod MapCalls
 pub mod Listings
 pub mod OrderedMap
+pub mod OneName
+pub mod MapSpellings
+pub mod Spellings
 pub mod Counts
 pub mod OtherMemory
 pub mod Breaks

@@ -4,26 +4,28 @@ use mathlib.Core.Path.{_≡_, refl, sym, ap, _∙_}
 use Prim.Native.Nat.{ℕ}
 use Rattle.types.specs.declared.Limits.{Limits}
 use Rattle.types.specs.Answers.{found as found-with}
-use Rattle.labels.specs.Labels.{Label}
+use Rattle.labels.specs.Labels.{Label, Alike}
 use Rattle.labels.specs.Neighbours.{none-below, none-above}
 use Rattle.labels.proofs.Clashes.{clash}
+use Rattle.trees.specs.Trees.{Entry}
 use Rattle.trees.specs.Heights.{Deepest}
 use Rattle.trees.specs.Searches.{Held, absent, found, fullSearch}
 use Rattle.trees.specs.Plain.{State, Call, search, insert, delete, soughtBy}
 use Rattle.trees.specs.Plain.{After, afterSearch, afterHeld, plainStep}
 use Rattle.trees.specs.Map.{lookup, mapOf}
 use Rattle.trees.specs.Valid.{Valid}
-use Rattle.trees.proofs.MapLaws.{valueOf, lookup-of-search}
+use Rattle.trees.proofs.MapLaws.{pairIn, lookup-of-search}
+use Rattle.trees.proofs.Searched.{found-alike}
 use Rattle.trees.proofs.ValidSteps.{valid-after}
 use Rattle.tables.specs.Written.{written, writtenTable, writtenStore}
 use Rattle.tables.specs.Steps.{Walk, searchSteps}
 use Rattle.tables.specs.Outcomes.{searchOutcome, replyAnswer, updateOutcome}
-use Rattle.tables.specs.Claims.{labelIn, LabelFits, valueSaid, SearchLooksUp, UpdatesMap}
+use Rattle.tables.specs.Claims.{labelIn, LabelFits, pairSaid, SearchLooksUp, UpdatesMap}
 use Rattle.written.proofs.Slots.{written-represents}
 use Rattle.demands.proofs.Outcomes.{search-outcome, update-outcome}
-use Rattle.demands.proofs.MapSteps.{step-of-fitting, value-of-answer, search-answered}
+use Rattle.demands.proofs.MapSteps.{step-of-fitting, pair-of-answer, search-answered}
 use Rattle.demands.proofs.MapSteps.{insert-reply, insert-map, delete-reply, delete-map}
-use Rattle.demands.proofs.LabelsRead.{found-read}
+use Rattle.demands.proofs.LabelsRead.{found-in-slot}
 use Rattle.demands.proofs.OnSound.{count-of-map, sound-out, map-of-written}
 
 module _ (limits : Limits) (deepest : Deepest (limits .slots) (limits .depth)) where
@@ -59,15 +61,20 @@ module _ (limits : Limits) (deepest : Deepest (limits .slots) (limits .depth)) w
     walk = searchSteps limits (writtenTable limits s) (writtenStore limits s) x
 
     -- What it finds is what the map holds.
-    looked-up : valueOf sought ≡ lookup x (mapOf (s .tree))
+    looked-up : pairIn sought ≡ lookup x (mapOf (s .tree))
     looked-up = lookup-of-search (s .tree) (valid .ascending) x
+
+    -- The slot of the node that it finds shows the node's label.
+    shown : (e : Entry) → sought ≡ found e → labelIn limits (written limits s) (e .slot) ≡ e .label
+    shown =
+        found-in-slot limits (written limits s) x none-below none-above (s .tree) (written-represents limits s valid)
 
     -- A search looks up.
     pub search-looks-up : SearchLooksUp limits (written limits s) x
     search-looks-up = record {
-      value =
-          ap valueSaid answer ∙ value-of-answer s walk sought ∙ looked-up
-          ∙ ap (lookup x) (sym (map-of-written limits deepest s valid));
+      pair =
+          ap (pairSaid limits (written limits s)) answer ∙ pair-of-answer s walk limits (written limits s) sought shown
+          ∙ looked-up ∙ ap (lookup x) (sym (map-of-written limits deepest s valid));
       slot = λ k v visits places says. slot-of-found k v visits places sought refl (sym answer ∙ says);
       answered = λ number refusal. search-answered s walk sought number (sym answer ∙ refusal);
     }
@@ -76,16 +83,15 @@ module _ (limits : Limits) (deepest : Deepest (limits .slots) (limits .depth)) w
             ≡ replyAnswer (afterSearch sought s .reply) walk
         answer = rw (step-settled s valid (search x) fits) at (search-outcome limits s deepest valid x)
 
-        -- the slot that it gives has the label sought
+        -- the slot that it gives has a label alike to the one sought
         slot-of-found : (k v visits places : ℕ) (h : Held) → sought ≡ h
             → replyAnswer (afterSearch h s .reply) walk ≡ found-with k v visits places
-            → labelIn limits (written limits s) k ≡ x
+            → Alike x (labelIn limits (written limits s) k)
         slot-of-found k v visits places absent none-held says =
             clash cc
         slot-of-found k v visits places (found e) held-so says =
             let there : e .slot ≡ k = cc in
-            rw there at (found-read limits (written limits s) x none-below none-above (s .tree)
-            (written-represents limits s valid) e held-so)
+            rw (← there, shown e held-so) (found-alike x (s .tree) held-so)
 
     -- An update inserts into the map, or removes from it.
     pub updates-map : (value : ℕ) → UpdatesMap limits (written limits s) x value

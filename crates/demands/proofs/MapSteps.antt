@@ -1,6 +1,6 @@
 -- The plain tree's steps are those of the ordered map, for a label that fits.
 -- step-of-fitting: a call with a label that fits is settled by what its search found.
--- value-of-answer, search-answered: a search says the value held, and is not refused.
+-- pair-of-answer, search-answered: a search says the pair held, and is not refused.
 -- insert-reply, insert-map: an insert is refused or done as the map has it, and leaves the map with the new pair.
 -- delete-reply, delete-map: a delete is refused or done as the map has it, and leaves the map without the label.
 use mathlib.Core.List.{List, [], _∷_}
@@ -12,19 +12,21 @@ use native.Mathlib.Omega.{arith}
 use lib.Dec.{leb}
 use lib.ListN.{length}
 use borrow.Author.Tests.{ne-eqb, le-ltb, leb-true, leb-false}
+use Rattle.types.specs.declared.Limits.{Limits}
 use Rattle.types.specs.Answers.{refused}
 use Rattle.labels.specs.Labels.{Label, Comparison, smaller, same, larger, compareLabels}
 use Rattle.labels.proofs.Clashes.{clash}
-use Rattle.trees.specs.Trees.{size, labels}
+use Rattle.trees.specs.Trees.{Entry, size, labels}
 use Rattle.trees.specs.Searches.{Held, absent, found, fullSearch}
 use Rattle.trees.specs.Plain.{State, Call, soughtBy, afterSearch, newEntry, insertIfRoom}
 use Rattle.trees.specs.Plain.{afterInsert, afterDelete, afterHeld, plainStep}
 use Rattle.trees.specs.Map.{Pair, lookupBy, lookup, removalBy, removal, mapOf}
 use Rattle.trees.specs.Valid.{ascends}
-use Rattle.trees.proofs.MapLaws.{valueOf, map-of-inserted, map-of-deleted}
+use Rattle.trees.proofs.MapLaws.{pairIn, map-of-inserted, map-of-deleted}
+use Rattle.tables.specs.Written.{Memory}
 use Rattle.tables.specs.Steps.{Walk}
 use Rattle.tables.specs.Outcomes.{replyAnswer}
-use Rattle.tables.specs.Claims.{valueSaid, Said, accepted, said, insertSaid, mapAfterInsert, deleteSaid}
+use Rattle.tables.specs.Claims.{labelIn, pairSaid, Said, accepted, said, insertSaid, mapAfterInsert, deleteSaid}
 
 -- Without a label that is not held, a map is as it was.
 removal-of-missing : (x : Label) (m : List Pair) → lookup x m ≡ none → removal x m ≡ m
@@ -47,10 +49,12 @@ step-of-fitting capacity width c s long short =
     rw (ne-eqb (length (soughtBy c)) 0 (omega arith), le-ltb width (length (soughtBy c)) short)
 
 module _ (s : State) (w : Walk) where
-  -- A search says the value held.
-  pub value-of-answer : (h : Held) → valueSaid (replyAnswer (afterSearch h s .reply) w) ≡ valueOf h
-  value-of-answer absent = refl
-  value-of-answer (found e) = refl
+  -- A search says the pair held, where the slot of the node found shows the node's label.
+  pub pair-of-answer : (limits : Limits) (m : Memory) (h : Held)
+      → ((e : Entry) → h ≡ found e → labelIn limits m (e .slot) ≡ e .label)
+      → pairSaid limits m (replyAnswer (afterSearch h s .reply) w) ≡ pairIn h
+  pair-of-answer limits m absent shows = refl
+  pair-of-answer limits m (found e) shows = rw (shows e refl)
 
   -- A search is not refused.
   pub search-answered : (h : Held) (number : ℕ) → replyAnswer (afterSearch h s .reply) w ≡ refused number → ⊥
@@ -68,7 +72,7 @@ module _ (s : State) (w : Walk) where
     accepted-new (k ∷ freed) = refl
 
     -- An insert is refused by 7 where the label is held, else by 9 where the tree is full, else done.
-    pub insert-reply : (h : Held) → insertSaid (valueOf h) (size (s .tree)) capacity (saidBy h)
+    pub insert-reply : (h : Held) → insertSaid (pairIn h) (size (s .tree)) capacity (saidBy h)
     insert-reply (found e) = refl
     insert-reply absent = by-room (leb capacity (size (s .tree))) refl
       where
@@ -102,12 +106,12 @@ module _ (s : State) (w : Walk) where
 
   module _ (x : Label) where
     -- A delete is done where the label is held, else refused by 8.
-    pub delete-reply : (h : Held) → deleteSaid (valueOf h) (said (replyAnswer (afterDelete h x s .reply) w))
+    pub delete-reply : (h : Held) → deleteSaid (pairIn h) (said (replyAnswer (afterDelete h x s .reply) w))
     delete-reply (found e) = refl
     delete-reply absent = refl
 
     -- A delete leaves the map without the label.
-    pub delete-map : ascends (labels (s .tree)) ≡ true → (h : Held) → valueOf h ≡ lookup x (mapOf (s .tree))
+    pub delete-map : ascends (labels (s .tree)) ≡ true → (h : Held) → pairIn h ≡ lookup x (mapOf (s .tree))
         → mapOf (afterDelete h x s .state .tree) ≡ removal x (mapOf (s .tree))
     delete-map ascending (found e) held = map-of-deleted (s .tree) ascending x
     delete-map ascending absent missing = sym (removal-of-missing x (mapOf (s .tree)) (sym missing))

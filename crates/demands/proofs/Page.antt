@@ -2,6 +2,7 @@
 -- page-ordered-map, page-cost-rule, page-sound-is-written: demand 2, demand 3, and what sound tables are.
 -- page-counts: a search visits at most 6 nodes and examines at most 26 places.
 -- page-breaks: one node more breaks a walk. page-refuses-hub: the hub's table is refused by 1.
+-- page-one-name, page-spelling-stays: spellings of one name.
 use native.Mathlib.Omega.{arith}
 use Rattle.types.specs.Sizes.{hub, page}
 use Rattle.tables.proofs.Depths.{page-depth}
@@ -9,11 +10,14 @@ use Rattle.tables.specs.Claims.{SoundIsWritten, OrderedMap, CostRule}
 use Rattle.sounds.proofs.SoundIsWritten.{sound-is-written}
 use Rattle.demands.specs.Counts.{CountsWithin, BreaksAfter}
 use Rattle.demands.specs.OtherMemory.{RefusesTableOf}
+use Rattle.demands.specs.Spellings.{OneName, SpellingStays}
 use Rattle.demands.proofs.CostRule.{cost-rule}
 use Rattle.demands.proofs.OrderedMap.{ordered-map}
 use Rattle.demands.proofs.Counts.{counts-within}
 use Rattle.demands.proofs.Breaks.{breaks-after}
 use Rattle.demands.proofs.OtherMemory.{wrong-table-refused}
+use Rattle.demands.proofs.OneName.{one-name}
+use Rattle.demands.proofs.Spellings.{spelling-stays}
 
 -- Demand 2 at the page.
 pub page-ordered-map : OrderedMap page
@@ -38,3 +42,10 @@ page-breaks = breaks-after page
 -- The hub's table lent to a call of the page is refused by 1.
 pub page-refuses-hub : RefusesTableOf page hub
 page-refuses-hub table store words = wrong-table-refused page table store (λ same. omega arith)
+
+-- Capital and small letters name one player of the page, and the spelling first stored stays.
+pub page-one-name : OneName page
+page-one-name = one-name page
+
+pub page-spelling-stays : SpellingStays page
+page-spelling-stays = spelling-stays page page-depth

@@ -2,6 +2,7 @@
 -- hub's limits.
 -- fixed-search-fails, absent-always-fails, refused-always-fails, never-finding-fails: searches that answer at once.
 -- skipping-first-fails, stopping-at-zero-fails: searches that start a compare too late, or stop at byte zero.
+-- exact-search-fails: a search exact to the byte.
 -- no-one-count: two answers with unlike counts do not give one number.
 -- fixed-search-counts-fail, invented-search-counts-fail: searches with counts that are not those of the steps.
 use mathlib.Core.List.{List, [], _∷_}
@@ -18,7 +19,9 @@ use Rattle.tables.specs.Steps.{searchSteps}
 use Rattle.cases.specs.Cases.{a, b}
 use Rattle.demands.specs.Trials.{SearchVersion, MeetsSearch, NeverFinds, Count, visits, places, ofCounts}
 use Rattle.demands.specs.Trials.{countIn, countOf, SearchesAnswer, SearchesCount, SkipsFirst, StopsAtZero}
-use Rattle.demands.proofs.Computed.{after, fair-one, fair-two, searched, onlyA, shown}
+use Rattle.demands.specs.Trials.{FindsExactly}
+use Rattle.demands.proofs.Computed.{after, fair-one, fair-two, searched, onlyA, capital, shown}
+use Rattle.demands.proofs.Computed.{small-is-not-capital}
 use Rattle.demands.proofs.CountsGiven.{search-counts}
 
 -- A count that an answer gives is no one number where two answers give unlike ones.
@@ -68,6 +71,13 @@ stopping-at-zero-fails f stops meets =
     (fair-two onlyA) in
     clash
     (cc (answered f meets onlyA (a ∷ []), shown .one-held, answered f meets onlyA (a ∷ 0 ∷ []), shown .zero-after))
+
+-- A search exact to the byte fails: it does not find "A" where "a" is held.
+pub exact-search-fails : (f : SearchVersion) → FindsExactly f → ¬ MeetsSearch f
+exact-search-fails f exact meets =
+    let same-bytes = exact (after onlyA .table) (after onlyA .store) capital (fair-one onlyA) 1 5 1 2
+    (answered f meets onlyA capital ∙ shown .capital-held) in
+    small-is-not-capital (sym (shown .shown-small) ∙ same-bytes)
 
 -- A search that gives one fixed number for its visits, or for its places, fails.
 pub fixed-search-counts-fail : (k : Count) (n : ℕ) (f : SearchVersion)

@@ -5,6 +5,7 @@
 -- idle-insert-fails, feigned-inserts-fail: inserts that leave the memory as it was, at once or after the first.
 -- fixed-insert-counts-fail, fixed-delete-counts-fail, invented-update-counts-fail: counts other than the steps'.
 -- sides-by-numbers-fail: sides set from P and S alone. unrenewed-delete-fails: places below a deleted node not renewed.
+-- respelling-taken-fails, folded-insert-fails: inserts that take a respelling, or store folded bytes.
 use mathlib.Core.List.{List, [], _∷_}
 use mathlib.Core.Option.{some}
 use mathlib.Core.Path.{_≡_, sym, ap, _∙_}
@@ -19,12 +20,15 @@ use Rattle.tables.specs.Words.{labelsHeld, rowAt}
 use Rattle.tables.specs.Written.{Memory}
 use Rattle.tables.specs.Steps.{searchSteps}
 use Rattle.tables.specs.Outcomes.{Outcome}
+use Rattle.tables.specs.Claims.{labelIn}
 use Rattle.cases.specs.Cases.{a, b, c, three}
 use Rattle.demands.specs.Trials.{UpdateVersion, MeetsUpdate, Count, countIn, countOf}
 use Rattle.demands.specs.UpdateTrials.{InsertsAnswer, InsertsCount, DeletesCount, DeletesAnswer, InsertsIdle}
 use Rattle.demands.specs.UpdateTrials.{InsertsOnce, SideIs, Numbers, lastNumbers, SidesByNumbers}
 use Rattle.demands.specs.UpdateTrials.{InsertsRefused, DeletesRefused, DeletesWithoutRenewal}
+use Rattle.demands.specs.UpdateTrials.{InsertsRespelling, StoresFolded}
 use Rattle.demands.proofs.Computed.{after, fair-one, fair-two, next, onlyA, onlyB, around, UnderB, shown}
+use Rattle.demands.proofs.Computed.{capital, small-is-not-capital}
 use Rattle.demands.proofs.CountsGiven.{update-counts}
 use Rattle.demands.proofs.RefutedSearches.{no-one-count}
 
@@ -155,3 +159,18 @@ unrenewed-delete-fails f unrenewed meets =
     (rw (row-left, shown .row-then)) (rw (row-left, shown .row-then)) in
     let z : _≡_ {A = ℕ} 1 2 = rw (row-left, shown .row-then) at stays in
     omega arith
+
+-- An insert that takes a respelling fails: "A" has to be refused by 7 where "a" is held.
+pub respelling-taken-fails : (f : UpdateVersion) → InsertsRespelling f → ¬ MeetsUpdate f
+respelling-taken-fails f takes meets =
+    takes capital 9 (after onlyA .table) (after onlyA .store) (fair-one onlyA) 1 5 1 2 (shown .capital-held)
+    (λ same. small-is-not-capital (sym (shown .shown-small) ∙ same))
+    (reply f meets onlyA (insert capital 9) ∙ shown .capital-again)
+
+-- An insert that stores folded bytes fails: the slot of "A" has to show "A".
+pub folded-insert-fails : (f : UpdateVersion) → StoresFolded f → ¬ MeetsUpdate f
+folded-insert-fails f stores meets =
+    let folds = stores capital 5 (after [] .table) (after [] .store) (fair-one []) 1 0 0
+    (reply f meets [] (insert capital 5) ∙ shown .capital-in) in
+    let keeps = ap (λ (o : Outcome). labelIn hub (o .memory) 1) (outcome f meets [] (insert capital 5)) in
+    small-is-not-capital (sym folds ∙ keeps ∙ shown .shown-capital)

@@ -1,5 +1,6 @@
 pub mod Counts
 pub mod OtherMemory
+pub mod Spellings
 pub mod Trials
 pub mod UpdateTrials
 pub mod CallTrials

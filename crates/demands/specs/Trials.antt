@@ -12,7 +12,7 @@ use Rattle.tables.specs.Words.{labelsHeld}
 use Rattle.tables.specs.Written.{Memory}
 use Rattle.tables.specs.Steps.{Walk}
 use Rattle.tables.specs.Outcomes.{Outcome, visitsOf, placesOf, searchOutcome, updateOutcome}
-use Rattle.tables.specs.Claims.{Sound, LabelFits}
+use Rattle.tables.specs.Claims.{Sound, LabelFits, labelIn}
 
 -- ---- the contracts
 
@@ -90,3 +90,10 @@ abbrev pub StopsAtZero : SearchVersion → Type 0
 StopsAtZero f =
     (table store : List ℕ) (x : Label) → Fair table store x → Fair table store (x ++ (0 ∷ []))
     → f table store (x ++ (0 ∷ [])) ≡ f table store x
+
+-- M-104 of document 02: a search exact to the byte finds a label only where the slot shows the very bytes sought
+abbrev pub FindsExactly : SearchVersion → Type 0
+FindsExactly f =
+    (table store : List ℕ) (x : Label) → Fair table store x
+    → (slot value visits places : ℕ) → f table store x ≡ found slot value visits places
+    → labelIn hub (lent table store) slot ≡ x

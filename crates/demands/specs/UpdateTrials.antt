@@ -1,16 +1,17 @@
 -- Trial versions of insert and delete that their contract rules out
 -- ('Agreed between the keeper and the builders' and 'Wrong turns' of document 01).
-use mathlib.Core.List.{List}
+use mathlib.Core.List.{List, map}
 use mathlib.Core.Path.{_≡_}
 use Prim.Native.Nat.{ℕ, zero, suc, _≤_, _<_}
 use Rattle.types.specs.Sizes.{hub}
 use Rattle.types.specs.Answers.{Answer, found, absent, updated, listed, done, refused}
-use Rattle.labels.specs.Labels.{Label}
+use Rattle.labels.specs.Labels.{Label, folded}
 use Rattle.trees.specs.Plain.{insert, delete}
 use Rattle.tables.specs.Words.{rootLink, labelsHeld, rowAt, entryAt}
 use Rattle.tables.specs.Written.{Memory}
 use Rattle.tables.specs.Steps.{Step, go-left, go-right, stop, stepAt}
 use Rattle.tables.specs.Outcomes.{searchOutcome}
+use Rattle.tables.specs.Claims.{labelIn}
 use Rattle.demands.specs.Trials.{UpdateVersion, lent, Fair, Count, CountGives}
 
 -- "one fixed answer": of inserts, and of deletes
@@ -104,3 +105,18 @@ DeletesWithoutRenewal f =
     → rowAt (f (delete x) table store .memory .table) k .left ≡ rowAt table k .left
     → rowAt (f (delete x) table store .memory .table) k .right ≡ rowAt table k .right
     → rowAt (f (delete x) table store .memory .table) k .place ≡ rowAt table k .place
+
+-- M-104 of document 02: an insert that takes a respelling is not refused by 7 where the slot of the label shows other
+-- bytes
+abbrev pub InsertsRespelling : UpdateVersion → Type 0
+InsertsRespelling f =
+    (x : Label) (value : ℕ) (table store : List ℕ) → Fair table store x
+    → (slot v visits places : ℕ) → searchOutcome hub table store x ≡ found slot v visits places
+    → (labelIn hub (lent table store) slot ≡ x → ⊥) → f (insert x value) table store .answer ≡ refused 7 → ⊥
+
+-- an insert that stores folded bytes
+abbrev pub StoresFolded : UpdateVersion → Type 0
+StoresFolded f =
+    (x : Label) (value : ℕ) (table store : List ℕ) → Fair table store x
+    → (slot visits places : ℕ) → f (insert x value) table store .answer ≡ updated slot visits places
+    → labelIn hub (f (insert x value) table store .memory) slot ≡ map folded x

@@ -11,11 +11,10 @@ use native.Mathlib.Omega.{arith}
 use lib.Dec.{eqb}
 use lib.ListN.{length, getD, take, drop, take-append-drop, length-take, length-drop}
 use lib.Seq.{drop-cons, drop-drop}
-use borrow.Author.Tests.{eqb-true, eq-eqb}
-use Rattle.labels.specs.Labels.{Label, numberOf, compareAt, compareFrom}
-use Rattle.labels.proofs.Numbers.{ordered}
+use borrow.Author.Tests.{eqb-true}
+use Rattle.labels.specs.Labels.{Label, compareAt, compareFrom}
 use Rattle.compares.specs.Compares.{StartsWithin}
-use Rattle.orders.proofs.OrderLaws.{compare-equal}
+use Rattle.orders.proofs.OrderLaws.{compare-decided, same-bytes}
 use Rattle.eights.specs.Eights.{AreBytes, Packed, packs-none, packs, SameEight}
 
 -- ---- numbers made of bytes
@@ -86,8 +85,7 @@ eight-found x y i r s h k p q =
 shared-start : (i : ℕ) (a x y : Label) → compareAt i (a ++ x) (a ++ y) ≡ compareAt (i + length a) x y
 shared-start i [] x y = let e : i + 0 ≡ i = omega arith in rw e
 shared-start i (b ∷ a) x y =
-    let n = numberOf b in
-    compare-equal {m = n} {n = n} i (compareAt (suc i) (a ++ x) (a ++ y)) (ordered n n) (rw (eq-eqb n n refl))
+    compare-decided b b i (compareAt (suc i) (a ++ x) (a ++ y)) ∙ (rw (← same-bytes b b refl))
     ∙ shared-start (suc i) a x y
     ∙ rw later
   where

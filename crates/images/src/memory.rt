@@ -132,7 +132,7 @@ pub fn store_byte(image: &Image, i: usize) -> usize {
     0
 }
 
-// The number at a place of a slot's label.
+// The number at a place of a slot's label: 0 past its end, the byte plus 33 for A to Z, and plus 1 for any other.
 pub fn number_at(image: &Image, slot: usize, place: usize) -> usize {
     if place == 0 {
         return 0;
@@ -140,7 +140,11 @@ pub fn number_at(image: &Image, slot: usize, place: usize) -> usize {
     if place > field(image, slot, LENGTH) {
         return 0;
     }
-    std::num::wrapping_add_usize(byte(image, slot, place - 1), 1)
+    let stored = byte(image, slot, place - 1);
+    match stored {
+        65..=90 => std::num::wrapping_add_usize(stored, 33),
+        _ => std::num::wrapping_add_usize(stored, 1),
+    }
 }
 
 // Whether two images are the same.

@@ -7,5 +7,6 @@ pub mod Results
 pub mod Ends
 pub mod Difference
 pub mod Late
-pub mod Equal
+pub mod Letters
+pub mod Spellings
 pub mod Branches

@@ -1,10 +1,11 @@
 -- What a test of two numbers finds, as views indexed by its result; and the numbers of bytes.
 -- `ordered`: `compare m n` says whether m is smaller, equal or larger.
 -- `ltb-view`, `leb-view`, `eqb-view`: `ltb`, `leb` and `eqb` say whether m < n, m ≤ n and m ≡ n.
+-- `number-view`: a capital letter has its small letter's number, any other byte its own.
 -- `number-positive`: the number of a byte is at least 1.
-use mathlib.Core.Bool.{Bool, true, false}
+use mathlib.Core.Bool.{Bool, true, false, _&&_, cond}
 use mathlib.Core.Path.{_≡_, refl, ap}
-use Prim.Native.Nat.{ℕ, zero, suc, _≤_, _<_, compare, Ordering, Ordering·lt, Ordering·eq, Ordering·gt}
+use Prim.Native.Nat.{ℕ, zero, suc, _+_, _≤_, _<_, compare, Ordering, Ordering·lt, Ordering·eq, Ordering·gt}
 use Prim.Native.Nat.{compare·zero-zero, compare·zero-suc, compare·suc-zero, compare·suc-suc}
 use native.Mathlib.Omega.{arith}
 use lib.Dec.{ltb, leb, eqb}
@@ -69,7 +70,27 @@ eqb-view m n = go (eqb m n) refl
     go true e = eq-yes (eqb-true m n e)
     go false e = eq-no (eqb-false m n e)
 
+-- what the number of a byte is
+pub data Numbered (byte : ℕ) : ℕ → Type 0 where
+  of-capital : 65 ≤ byte → byte ≤ 90 → Numbered byte (byte + 32 + 1)
+  of-other : (65 ≤ byte → byte ≤ 90 → ⊥) → Numbered byte (byte + 1)
+
+-- a capital letter has its small letter's number, any other byte its own
+pub number-view : (byte : ℕ) → Numbered byte (numberOf byte)
+unfolding numberOf
+number-view byte = go (leb-view 65 byte) (leb-view byte 90)
+  where
+    go : {low high : Bool} → Leb 65 byte low → Leb byte 90 high
+        → Numbered byte (cond (low && high) (byte + 32) byte + 1)
+    go (le-yes low) (le-yes high) = of-capital low high
+    go (le-yes low) (le-no high) = of-other (λ p q. omega arith)
+    go (le-no low) (le-yes high) = of-other (λ p q. omega arith)
+    go (le-no low) (le-no high) = of-other (λ p q. omega arith)
+
 -- a byte's number is more than the end's
 pub number-positive : (byte : ℕ) → 1 ≤ numberOf byte
-unfolding numberOf
-number-positive byte = omega arith
+number-positive byte = go (number-view byte)
+  where
+    go : {n : ℕ} → Numbered byte n → 1 ≤ n
+    go (of-capital low high) = omega arith
+    go (of-other outside) = omega arith

@@ -1,16 +1,26 @@
--- 'Order of labels, and places' of document 01.
+-- 'Order of labels, and places' of document 01, with the place numbers of M-104 of document 02.
+use mathlib.Core.Bool.{Bool, _&&_, cond}
 use mathlib.Core.List.{List, [], _∷_}
 use mathlib.Core.Path.{_≡_}
 use Prim.Native.Nat.{ℕ, zero, suc, _+_, _-_, _≤_, _<_, compare, Ordering, Ordering·lt, Ordering·eq, Ordering·gt}
+use lib.Dec.{leb}
 use lib.ListN.{length, drop}
 
 -- a label: its bytes
 abbrev pub Label : Type 0
 Label = List ℕ
 
--- the number that stands for a byte: "its byte plus 1"
+-- "A to Z": bytes 65 to 90
+abbrev pub isCapital : ℕ → Bool
+isCapital byte = leb 65 byte && leb byte 90
+
+-- "treats A to Z as a to z": a capital letter as its small letter, which is 32 above it, any other byte as itself
+abbrev pub folded : ℕ → ℕ
+folded byte = cond (isCapital byte) (byte + 32) byte
+
+-- the number that stands for a byte: "its byte plus 1", the byte that it is treated as
 unfoldable pub numberOf : ℕ → ℕ
-numberOf byte = byte + 1
+numberOf byte = folded byte + 1
 
 -- "Places are counted from 1. Place i of a label of length n holds its byte plus 1 when i is at most n, and 0 (the end)
 -- at place n + 1."

@@ -3,15 +3,16 @@
 -- `halts-link`, `halts-deep`, `halts-row`: the test for no node to visit, by its parts.
 -- `tested-row`: a link that the first part lets through has a row.
 -- `live`: a link that the whole test lets through is that of a node.
+-- `son-read`, `son-of-row`: a son's link is read by its index in the row.
 -- `live-row`, `live-side`, `live-slot`: its row can be read, its side is 0 or 1, and its label can be compared.
 use mathlib.Core.Path.{_≡_, refl, sym, _∙_}
 use mathlib.Core.Logic.{_≢_}
 use mathlib.Core.List.{List}
 use mathlib.Core.Bool.{Bool, true, false, _||_, true≢false}
-use Prim.Native.Nat.{ℕ, zero, suc, _+_, _-_, _≤_, _<_}
+use Prim.Native.Nat.{ℕ, zero, suc, _+_, _*_, _-_, _≤_, _<_}
 use native.Mathlib.Omega.{arith}
 use lib.Dec.{ltb, eqb}
-use lib.ListN.{length}
+use lib.ListN.{length, getD}
 use borrow.Author.Tests.{ltb-false, eqb-false, lt-ltb, le-ltb, eq-eqb, ne-eqb}
 use Rattle.types.specs.declared.Limits.{Limits}
 use Rattle.types.specs.declared.Row.{Row}
@@ -20,8 +21,9 @@ use Rattle.tables.specs.Words.{rowAt}
 use Rattle.tables.specs.Steps.{isBad}
 use Rattle.words.specs.Rows.{HasRow}
 use Rattle.words.specs.Limits.{LimitsFit, SizesFit}
+use Rattle.trees.specs.Valid.{oneIf}
 use Rattle.trees.proofs.Views.{either-false}
-use Rattle.nodes.specs.Nodes.{numberBefore, haltsAt}
+use Rattle.nodes.specs.Nodes.{numberBefore, haltsAt, sonOf}
 use Rattle.nodes.specs.Bounds.{GoodRow, AtRow, Live}
 
 -- a test whose second part passes
@@ -200,3 +202,15 @@ module _ (limits : Limits) (table : List ℕ) (link remaining : ℕ) (tested : B
           bytes = sizes .bytes;
           good = rw read (node .good);
         }
+
+-- a son's link, read by its index in the row
+pub son-read : (table : List ℕ) (k n : ℕ) (right : Bool) → n ≡ oneIf right
+    → getD table (4 + 8 * (k - 1) + n) 0 ≡ sonOf (rowAt table k) right
+unfolding sonOf rowAt
+son-read table k n true e = rw e
+son-read table k n false e = let here : 4 + 8 * (k - 1) + 0 ≡ 4 + 8 * (k - 1) = omega arith in rw (e, here)
+
+-- a son's link, by a row that was read
+pub son-of-row : (link : ℕ) (row held : Row) (right : Bool) → row ≡ held → link ≡ sonOf held right
+    → link ≡ sonOf row right
+son-of-row link row held right e son = rw e son

@@ -10,9 +10,11 @@ use types::Row;
 ghost use mathlib.Core.Path.{_≡_};
 ghost use Prim.Native.Nat.{_≤_};
 ghost use Rattle.labels.specs.Labels.{compareFrom};
+ghost use Rattle.trees.specs.Valid.{oneIf};
 ghost use Rattle.compares.specs.Compares.{comparisonOf};
-ghost use Rattle.tables.specs.Words.{labelAt};
+ghost use Rattle.tables.specs.Words.{rowAt, labelAt};
 ghost use Rattle.tables.specs.Steps.{isBad, compareStep};
+ghost use Rattle.words.specs.Rows.{HasRow};
 ghost use Rattle.nodes.specs.Nodes.{numberBefore, haltsAt, reachedOn, stepOf, rowStep, sonOf, spotAfter};
 ghost use Rattle.nodes.specs.Bounds.{AtRow, AtPlace, CanTest, CanStep, Onward};
 
@@ -89,6 +91,18 @@ pub fn compare_row(limits: Limits, store: &[u8], label: &[u8], link: usize, row:
     compares::compare(label, held, row.place as usize)
 }
 
+// The same comparison, by the table of place numbers.
+fn compare_by_table(limits: Limits, store: &[u8], label: &[u8], link: usize, row: Row) -> Compared
+    requires { ⌜ AtRow limits (now store) link row ⌝ }
+    ensures { λ r. ⌜
+        comparisonOf r
+        ≡ compareFrom (row .place) (now (label .entry)) (labelAt limits (now (store .entry)) link (row .len)) ⌝ }
+    ensures { λ r. ⌜ AtPlace (row .place) r ⌝ }
+{
+    let held = words::parts::label_at(limits, store, link, row.len as usize);
+    compares::by_table(label, held, row.place as usize)
+}
+
 // The step after a comparison that started at place d.
 fn decide(p: usize, s: usize, d: usize, c: Compared) -> Step
     requires { ⌜ AtPlace d c ⌝ }
@@ -155,7 +169,7 @@ pub fn visit(limits: Limits, store: &[u8], label: &[u8], spot: Spot, row: Row) -
             examined: 0,
         },
         Turn::Compare => {
-            let c = compare_row(limits, store, label, spot.link, row);
+            let c = compare_by_table(limits, store, label, spot.link, row);
             decide(spot.p, spot.s, d, c)
         }
     }
@@ -166,6 +180,23 @@ pub fn son(row: Row, right: bool) -> u16
     ensures { λ r. ⌜ r ≡ sonOf row right ⌝ }
 {
     if right { row.right } else { row.left }
+}
+
+// Where a son's link stands in its row.
+fn link_index(right: bool) -> usize
+    ensures { λ r. ⌜ r ≡ oneIf right ⌝ }
+    ensures { λ r. ⌜ r ≤ 1 ⌝ }
+{
+    if right { 1 } else { 0 }
+}
+
+// The same link, read from the table.
+pub fn son_at(table: &[u16], link: usize, right: bool) -> u16
+    requires { ⌜ HasRow (now table) link ⌝ }
+    ensures { λ r. ⌜ r ≡ sonOf (rowAt (now (table .entry)) link) right ⌝ }
+{
+    let base = 4 + 8 * (link - 1);
+    table[base + link_index(right)]
 }
 
 // Where the walk stands after the step at a node with this row.

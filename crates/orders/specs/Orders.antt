@@ -1,8 +1,8 @@
--- The order of two labels by two different bytes or by their ends, and the comparison that it stands for.
+-- The order of two labels by the bytes at one place, or by their ends, and the comparison that it stands for.
 use Prim.Native.Nat.{ℕ}
-use mathlib.Core.Bool.{Bool, not, cond}
-use lib.Dec.{ltb, eqb}
-use Rattle.labels.specs.Labels.{numberOf, Comparison, smaller, same, larger}
+use mathlib.Core.Bool.{Bool, _&&_, cond}
+use lib.Dec.{ltb}
+use Rattle.labels.specs.Labels.{isCapital, numberOf, Comparison, smaller, same, larger}
 use Rattle.orders.specs.declared.Order.{Order}
 use Rattle.orders.specs.declared.Order.the-variants.{Smaller, Same, Larger}
 
@@ -12,13 +12,18 @@ comparisonBy Smaller i = smaller i
 comparisonBy Same i = same i
 comparisonBy Larger i = larger i
 
--- whether two bytes stand for different numbers
-unfoldable pub differ : (a b : ℕ) → Bool
-differ a b = not (eqb (numberOf a) (numberOf b))
+-- the order of labels by the bytes at a place: that of the numbers that stand for them
+unfoldable pub byNumbers : (a b : ℕ) → Order
+byNumbers a b =
+    cond (ltb (numberOf a) (numberOf b)) Smaller (cond (ltb (numberOf b) (numberOf a)) Larger Same)
 
--- the order of labels with these different bytes at the difference place
-unfoldable pub unlike : (a b : ℕ) → Order
-unlike a b = cond (ltb (numberOf a) (numberOf b)) Smaller Larger
+-- a capital letter, and a larger byte above "Z": their numbers may lie otherwise than the bytes
+unfoldable pub parts : (lower upper : ℕ) → Bool
+parts lower upper = isCapital lower && ltb 90 upper
+
+-- the order by two different bytes as far as they show it: the same where their numbers may lie otherwise
+unfoldable pub shown : (a b : ℕ) → Order
+shown a b = cond (ltb a b) (cond (parts a b) Same Smaller) (cond (parts b a) Same Larger)
 
 -- the order of labels of lengths m and n that agree up to the index i, at which one of them ends
 unfoldable pub atEnd : (m n i : ℕ) → Order

@@ -1,7 +1,7 @@
-// The number that stands for a byte at its place, and the order of two labels by two different bytes or by their ends.
+// The order of two labels by the bytes at one place, or by their ends.
 ghost use mathlib.Core.Path.{_≡_};
-ghost use Rattle.labels.specs.Labels.{numberOf};
-ghost use Rattle.orders.specs.Orders.{differ, unlike, atEnd};
+ghost use Rattle.labels.specs.Labels.{folded};
+ghost use Rattle.orders.specs.Orders.{byNumbers, parts, shown, atEnd};
 
 // How the first of two labels lies to the second.
 pub enum Order {
@@ -10,28 +10,94 @@ pub enum Order {
     Larger,
 }
 
-// The number that stands for a byte at its place.
-pub fn number(byte: u8) -> u16
-    ensures { λ r. ⌜ r ≡ numberOf byte ⌝ }
+// The order by two bytes, as their numbers in the table have it.
+pub fn by_table(a: u8, b: u8) -> Order
+    ensures { λ r. ⌜ r ≡ byNumbers a b ⌝ }
 {
-    byte as u16 + 1
+    let m = numbers::number(a);
+    let n = numbers::number(b);
+    if m < n {
+        return Order::Smaller;
+    }
+    if n < m {
+        return Order::Larger;
+    }
+    Order::Same
 }
 
-// Whether two bytes stand for different numbers.
-pub fn differ(a: u8, b: u8) -> bool
-    ensures { λ r. ⌜ r ≡ differ a b ⌝ }
+// Whether the numbers of two bytes may lie otherwise than the bytes: the smaller one is a capital letter, and the
+// larger one is above "Z".
+fn parts(lower: u8, upper: u8) -> bool
+    ensures { λ r. ⌜ r ≡ parts lower upper ⌝ }
 {
-    number(a) != number(b)
+    if lower < 65 {
+        return false;
+    }
+    if 90 < lower {
+        return false;
+    }
+    90 < upper
 }
 
-// The order of labels with these different bytes at the difference place.
-pub fn unlike(a: u8, b: u8) -> Order
-    ensures { λ r. ⌜ r ≡ unlike a b ⌝ }
+// The order by two different bytes as far as they show it: the same where their numbers may lie otherwise.
+pub fn shown(a: u8, b: u8) -> Order
+    ensures { λ r. ⌜ r ≡ shown a b ⌝ }
 {
-    if number(a) < number(b) {
-        Order::Smaller
-    } else {
-        Order::Larger
+    if a < b {
+        if parts(a, b) {
+            return Order::Same;
+        }
+        return Order::Smaller;
+    }
+    if parts(b, a) {
+        return Order::Same;
+    }
+    Order::Larger
+}
+
+// A capital letter as its small letter, any other byte as itself.
+fn folded(byte: u8) -> u8
+    ensures { λ r. ⌜ r ≡ folded byte ⌝ }
+{
+    if byte < 65 {
+        return byte;
+    }
+    if 90 < byte {
+        return byte;
+    }
+    byte + 32
+}
+
+// The order by two bytes, with no table.
+pub fn by_letters(a: u8, b: u8) -> Order
+    ensures { λ r. ⌜ r ≡ byNumbers a b ⌝ }
+{
+    if a == b {
+        return Order::Same;
+    }
+    let m = folded(a);
+    let n = folded(b);
+    if m < n {
+        return Order::Smaller;
+    }
+    if n < m {
+        return Order::Larger;
+    }
+    Order::Same
+}
+
+// The same, folded only where different bytes do not show it.
+pub fn by_sight(a: u8, b: u8) -> Order
+    ensures { λ r. ⌜ r ≡ byNumbers a b ⌝ }
+{
+    if a == b {
+        return Order::Same;
+    }
+    let order = shown(a, b);
+    match order {
+        Order::Smaller => order,
+        Order::Same => by_letters(a, b),
+        Order::Larger => order,
     }
 }
 

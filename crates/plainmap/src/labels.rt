@@ -1,4 +1,4 @@
-// The labels of the map, and their order by the numbers at their places.
+// The labels of the map, and their order by the numbers at their places, in which A to Z count as a to z.
 use crate::BYTES;
 use crate::COUNTS;
 use crate::LENGTHS;
@@ -8,7 +8,18 @@ use crate::lists;
 use crate::lists::Lists;
 use std::num::wrapping_add_usize;
 
-// The number at a place of a slot's label, counted from 1: its byte plus 1, and 0 past its end.
+// The number of a byte: a capital letter's is that of its small letter, any other's the byte plus 1.
+fn number_of(byte: usize) -> usize {
+    let mut small = byte;
+    if byte >= 65 {
+        if byte <= 90 {
+            small = wrapping_add_usize(byte, 32);
+        }
+    }
+    wrapping_add_usize(small, 1)
+}
+
+// The number at a place of a slot's label, counted from 1: its byte's, and 0 past its end.
 pub fn slot_number(map: &Lists, slot: usize, place: usize) -> usize {
     if place == 0 {
         return 0;
@@ -16,10 +27,7 @@ pub fn slot_number(map: &Lists, slot: usize, place: usize) -> usize {
     if place > lists::get(map, LENGTHS, slot) {
         return 0;
     }
-    wrapping_add_usize(
-        lists::get(map, wrapping_add_usize(BYTES, place - 1), slot),
-        1,
-    )
+    number_of(lists::get(map, wrapping_add_usize(BYTES, place - 1), slot))
 }
 
 fn wide(x: u8) -> usize {
@@ -34,10 +42,11 @@ pub fn label_number(label: &[u8], place: usize) -> usize {
     if place > label.len() {
         return 0;
     }
-    wrapping_add_usize(wide(label[place - 1]), 1)
+    number_of(wide(label[place - 1]))
 }
 
-// The first place at which a slot's label and another hold different numbers; 0 where they are the same label.
+// The first place at which a slot's label and another hold different numbers; 0 where they are the same label,
+// in whichever spelling.
 pub fn difference(map: &Lists, slot: usize, label: &[u8]) -> usize {
     let end = wrapping_add_usize(lists::get(map, COUNTS, WIDTH), 2);
     for place in 1..end {
@@ -46,6 +55,16 @@ pub fn difference(map: &Lists, slot: usize, label: &[u8]) -> usize {
         }
     }
     0
+}
+
+// Whether a slot's label begins with these bytes, in this spelling.
+pub fn begins_with(map: &Lists, slot: usize, bytes: &[u8]) -> bool {
+    for j in 0..bytes.len() {
+        if lists::get(map, wrapping_add_usize(BYTES, j), slot) != wide(bytes[j]) {
+            return false;
+        }
+    }
+    true
 }
 
 // Writes a slot's label and value.

@@ -9,8 +9,9 @@ use std::num::wrapping_sub_usize;
 
 // The kinds of change: one word, two or three at once; one byte; two rows exchanged; a link between the tree and the
 // freed slots; a link back to a node above, or to a freed slot earlier in the chain; a path on one side alone, of as
-// many nodes as a walk may visit, one less or one more.
-pub const KINDS: usize = 8;
+// many nodes as a walk may visit, one less or one more; labels whose letters were told apart by their case, as a table
+// holds them that was written when capital letters counted as bytes like any other.
+pub const KINDS: usize = 9;
 
 pub const BYTE: usize = 3;
 
@@ -21,6 +22,8 @@ pub const FREED: usize = 5;
 pub const CYCLE: usize = 6;
 
 pub const PATH: usize = 7;
+
+pub const OLD: usize = 8;
 
 // An entry of the image, and what is written there.
 struct Written {
@@ -40,8 +43,14 @@ fn word_to(word: usize, to: usize) -> Written {
     }
 }
 
-// How many changes of a kind are made on a table of a shape.
+// How many changes of a kind are made on a table of a shape: old labels on bytes 1 to 4 alone, and there nothing else.
 pub fn times(shape: usize, kind: usize) -> usize {
+    if (kind == OLD) != (shape == shapes::FOUR) {
+        return 0;
+    }
+    if kind == OLD {
+        return 120;
+    }
     if kind == PATH {
         return 60;
     }
@@ -73,6 +82,7 @@ fn writes(image: &Image, kind: usize) -> usize {
         2 => 3,
         ROWS => 16,
         PATH => 4 * (memory::entry(image, memory::DEPTH) % 65) + 5,
+        OLD => sizes::bytes(slots(image), memory::entry(image, memory::WIDTH)),
         _ => 1,
     }
 }
@@ -95,6 +105,7 @@ fn write(image: &Image, kind: usize, seed: u64, j: usize) -> Written {
         FREED => freed_write(image, seed),
         CYCLE => cycle_write(image, seed),
         PATH => path_write(image, seed, j),
+        OLD => old_write(image, seed, j),
         _ => word_write(image, numbers::mixed_seed(seed, j)),
     }
 }
@@ -277,4 +288,47 @@ fn next_node(node: usize, end: usize) -> usize {
         return wrapping_add_usize(node, 1);
     }
     0
+}
+
+// Byte `j` of the store becomes the one that stands for it.
+fn old_write(image: &Image, seed: u64, j: usize) -> Written {
+    Written {
+        entry: wrapping_add_usize(memory::STORE, j),
+        to: old_byte(memory::store_byte(image, j), seed),
+    }
+}
+
+// The byte that stands for 1, 2, 3 or 4: one of four that ascend, of the 16 of the letters. As the order of the labels
+// stays, so do their places and sides where each byte counts as itself. The first is "@" or a capital letter.
+pub fn old_byte(byte: usize, seed: u64) -> usize {
+    let second = numbers::next(seed);
+    let third = numbers::next(second);
+    let a = numbers::below(seed, 4);
+    let b = rank_above(a, 13, second);
+    let c = rank_above(b, 14, third);
+    match byte {
+        0 => 0,
+        1 => shapes::letter(a),
+        2 => shapes::letter(b),
+        3 => shapes::letter(c),
+        4 => shapes::letter(rank_above(c, 15, numbers::next(third))),
+        _ => byte,
+    }
+}
+
+// A number above one and up to another.
+fn rank_above(rank: usize, last: usize, seed: u64) -> usize {
+    let more = numbers::below(seed, wrapping_sub_usize(last, rank));
+    wrapping_add_usize(wrapping_add_usize(rank, 1), more)
+}
+
+// Writes a label's bytes 1 to 4 as an old table has them.
+pub fn write_old(label: &mut shapes::Label, seed: u64) {
+    for i in 0..66usize {
+        label[i] = (old_byte(wide(label[i]), seed) % 256) as u8;
+    }
+}
+
+fn wide(x: u8) -> usize {
+    x as usize
 }

@@ -6,17 +6,20 @@ use samples::numbers;
 use samples::shapes::ALIKE;
 use samples::shapes::ANY;
 use samples::shapes::ENDS;
+use samples::shapes::FOUR;
+use samples::shapes::LETTERS;
 use samples::shapes::LONGEST;
 use samples::shapes::ROSTER;
 use samples::shapes::SHORT;
+use samples::shapes::SPELLED;
 use std::num::wrapping_add_usize;
 use std::num::wrapping_sub_usize;
 
-pub const GROUPS: usize = 14;
+pub const GROUPS: usize = 20;
 
 // The ways of a group: case 11 of the paper, by the index's sizes; all labels of a shape inserted, searched and
 // deleted, in order, in reverse or in steps of 333; calls drawn from a generator; some labels inserted, then twelve
-// deleted.
+// deleted; a full table of names, each inserted again in another spelling.
 pub const CASE: usize = 0;
 
 pub const IN_ORDER: usize = 1;
@@ -28,6 +31,8 @@ pub const STEPPED: usize = 3;
 pub const DRAWN: usize = 4;
 
 pub const PREPARED: usize = 5;
+
+pub const RESPELLED: usize = 6;
 
 // A group: its way, its shape, and of how many labels.
 pub struct Plan {
@@ -50,8 +55,14 @@ pub fn plan_of(group: usize, slots: usize) -> Plan {
         8 => group_of(DRAWN, ENDS, surplus(slots)),
         9 => group_of(DRAWN, SHORT, surplus(slots)),
         10 => group_of(DRAWN, ANY, surplus(slots)),
-        11 => group_of(PREPARED, ALIKE, fewer(45, slots)),
-        12 => group_of(PREPARED, ENDS, fewer(70, slots)),
+        11 => group_of(STEPPED, SPELLED, surplus(slots)),
+        12 => group_of(DRAWN, SPELLED, many(slots)),
+        13 => group_of(DRAWN, LETTERS, many(slots)),
+        14 => group_of(RESPELLED, SPELLED, slots),
+        15 => group_of(PREPARED, ALIKE, fewer(45, slots)),
+        16 => group_of(PREPARED, ENDS, fewer(70, slots)),
+        17 => group_of(PREPARED, LETTERS, fewer(70, slots)),
+        18 => group_of(PREPARED, FOUR, fewer(70, slots)),
         _ => group_of(PREPARED, ROSTER, wrapping_add_usize(slots, 48)),
     }
 }
@@ -69,6 +80,11 @@ fn surplus(slots: usize) -> usize {
     slots % 513 * 25 / 16
 }
 
+// Four times as many labels, where several are one in different spellings; 800 at most.
+fn many(slots: usize) -> usize {
+    numbers::least(800, slots % 513 * 25 / 4)
+}
+
 // So many labels, or else two fewer than there are slots.
 fn fewer(labels: usize, slots: usize) -> usize {
     numbers::least(labels, wrapping_sub_usize(slots, 2))
@@ -82,6 +98,7 @@ pub fn calls(plan: Plan) -> usize {
         CASE => 2 * labels + 17,
         DRAWN => numbers::least(8000, 40 * labels),
         PREPARED => labels + 12,
+        RESPELLED => 2 * labels + 8,
         _ => 3 * labels,
     }
 }
@@ -104,6 +121,7 @@ pub fn call(plan: Plan, i: usize, seed: u64) -> Planned {
         CASE => case_call(plan.labels, i),
         DRAWN => drawn(plan, i, seed),
         PREPARED => prepared(plan, i),
+        RESPELLED => respelled(plan.labels, i),
         _ => swept(plan, i),
     }
 }
@@ -243,5 +261,43 @@ fn longest(call: usize, label: usize, refusal: usize) -> Planned {
         shape: LONGEST,
         label: label,
         refusal: number,
+    }
+}
+
+// Names in small letters until the table is full, each again in another spelling, and then some calls on one of them.
+fn respelled(slots: usize, i: usize) -> Planned {
+    if i < slots {
+        return name(INSERT, i, 0, 0);
+    }
+    let again = i - slots;
+    if again < slots {
+        return name(INSERT, again, again % 3 + 1, 7);
+    }
+    renewed(slots, again - slots)
+}
+
+// On a full table: a new name is refused; one held is deleted by another spelling, and inserted anew in a third, in
+// which it stays.
+fn renewed(slots: usize, i: usize) -> Planned {
+    let held = slots / 2;
+    match i {
+        0 => name(INSERT, slots, 1, 9),
+        1 => name(SEARCH, held, 2, 0),
+        2 => name(DELETE, held, 1, 0),
+        3 => name(DELETE, held, 0, 8),
+        4 => name(INSERT, held, 3, 0),
+        5 => name(INSERT, held, 0, 7),
+        6 => name(SEARCH, held, 1, 0),
+        _ => name(INSERT, slots, 0, 9),
+    }
+}
+
+// A call on a name in a spelling.
+fn name(call: usize, number: usize, spelling: usize, refusal: usize) -> Planned {
+    Planned {
+        call: call,
+        shape: SPELLED,
+        label: wrapping_add_usize(4 * (number % 513), spelling),
+        refusal: refusal,
     }
 }

@@ -98,7 +98,7 @@ pub fn print_sequence(page: bool, shape: usize, way: usize, tally: Tally) {
     print(
         page,
         shape,
-        b", case 11|, in order|, reversed|, stepped|, drawn|, prepared",
+        b", case 11|, in order|, reversed|, stepped|, drawn|, prepared|, respelled",
         way,
         b": calls 0, found 1, absent 2, inserted 3, deleted 4, refused 5, most held 6, mismatches 7",
         tally,
@@ -110,7 +110,7 @@ pub fn print_damage(page: bool, shape: usize, kind: usize, tally: Tally) {
     print(
         page,
         shape,
-        b", one word|, two words|, three words|, one byte|, two rows|, freed slots|, cycles|, paths",
+        b", one word|, two words|, three words|, one byte|, two rows|, freed slots|, cycles|, paths|, old",
         kind,
         b": changes 8, still sound 9, calls 0, mismatches 7",
         tally,
@@ -143,7 +143,7 @@ fn put_shape(line: &mut Line, at: usize, shape: usize) -> usize {
     texts::put_name(
         line,
         at,
-        b"roster|alike|bytes 0 and 255|short|any bytes",
+        b"roster|alike|bytes 0 and 255|short|any bytes|longest|spelled|letters|bytes 1 to 4",
         shape,
     )
 }

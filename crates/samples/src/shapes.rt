@@ -18,6 +18,13 @@ pub const SHORT: usize = 3;
 pub const ANY: usize = 4;
 // Letters "z" alone: as many as a label may have, one more, or none.
 pub const LONGEST: usize = 5;
+// Names in four spellings each, numbered in a row: small letters, capital letters, the first letter capital, every
+// second one.
+pub const SPELLED: usize = 6;
+// One to four bytes, letters and the bytes about them, many alike but for the case.
+pub const LETTERS: usize = 7;
+// One to three bytes of 1 to 4.
+pub const FOUR: usize = 8;
 
 // Writes 66 bytes, the first of which are a shape's label, for an index of labels of so many bytes; gives its length.
 pub fn write(label: &mut Label, width: usize, shape: usize, k: usize) -> usize {
@@ -49,6 +56,9 @@ fn length(width: usize, shape: usize, k: usize) -> usize {
         ALIKE => wrapping_add_usize(shared(width), 4 - k % 2),
         ENDS => wrapping_add_usize(numbers::remainder(k, width), 1),
         SHORT => k % 3 + 1,
+        FOUR => k % 3 + 1,
+        LETTERS => k % 4 + 1,
+        SPELLED => k / 4 % 14 + 7,
         LONGEST => longest_length(width, k),
         _ => any_length(width, numbers::mixed(k, 66) % 100),
     }
@@ -76,7 +86,10 @@ fn byte(width: usize, shape: usize, k: usize, i: usize) -> usize {
         ROSTER => roster_byte(k, i),
         ALIKE => alike_byte(shared(width), k, i),
         ENDS => 255 * ((numbers::quotient(k, width) >> (i % 4)) % 2),
-        SHORT => short_byte(k / 3, i),
+        SHORT => wrapping_add_usize(short_byte(k / 3, i), 97),
+        FOUR => wrapping_add_usize(short_byte(k / 3, i), 1),
+        LETTERS => letters_byte(k / 4, i),
+        SPELLED => cased(name_byte(k / 4, i), is_capital(k % 4, i)),
         LONGEST => 122,
         _ => numbers::mixed(k, i),
     }
@@ -133,8 +146,64 @@ fn shared_byte(opening: usize, k: usize, i: usize) -> usize {
 
 fn short_byte(k: usize, i: usize) -> usize {
     match i {
-        0 => 97 + k % 4,
-        1 => 97 + k / 4 % 4,
-        _ => 97 + k / 16 % 4,
+        0 => k % 4,
+        1 => k / 4 % 4,
+        _ => k / 16 % 4,
+    }
+}
+
+// Byte `i` of a name: two letters tell it from the others, with a digit between them.
+fn name_byte(name: usize, i: usize) -> usize {
+    match i {
+        4 => 97 + name / 26 % 26,
+        5 => digit(name),
+        6 => 97 + name % 26,
+        _ => 97 + i % 26,
+    }
+}
+
+// Whether a letter at `i` is capital in a spelling.
+fn is_capital(spelling: usize, i: usize) -> bool {
+    match spelling {
+        0 => false,
+        1 => true,
+        2 => i == 0,
+        _ => i % 2 == 1,
+    }
+}
+
+// A small letter made capital or left; any byte below the small letters stays.
+fn cased(byte: usize, capital: bool) -> usize {
+    if capital {
+        if byte >= 97 {
+            return byte - 32;
+        }
+    }
+    byte
+}
+
+fn letters_byte(k: usize, i: usize) -> usize {
+    match i {
+        0 => letter(7 * (k % 16)),
+        1 => letter(k / 16),
+        _ => letter(numbers::mixed(k, i)),
+    }
+}
+
+// One of 16 bytes, ascending: "@", three capital letters, the six bytes up to the small letters, three of these, "{",
+// and two bytes above 127 that are as far apart as a capital letter and its small one.
+pub fn letter(i: usize) -> usize {
+    match i % 16 {
+        0 => 64,
+        1 => 65,
+        2 => 77,
+        3 => 90,
+        10 => 97,
+        11 => 109,
+        12 => 122,
+        13 => 123,
+        14 => 192,
+        15 => 224,
+        _ => 87 + i % 16,
     }
 }

@@ -136,12 +136,12 @@ module _ (limits : Limits) (table store : List ℕ) (x : Label) where
           (steps-node remaining link (getD ends 0 0) (getD ends 1 0) (sym test ∙ fine))) ∙ at .so)
 
       -- where the label is found, it ends
-      pub walk-found : (examined more : ℕ) (a : SearchAnswer)
+      pub walk-found : (held : Row) → held ≡ rowAt table link → (examined more : ℕ) (a : SearchAnswer)
           → stop examined ≡ rowStep limits store x link row (getD ends 0 0) (getD ends 1 0)
-          → a ≡ Found link (row .value) (visits + 1) more → more ≡ places + examined → searchSays a ≡ whole
-      walk-found examined more a step e sum =
+          → a ≡ Found link (held .value) (visits + 1) more → more ≡ places + examined → searchSays a ≡ whole
+      walk-found held again examined more a step e sum =
           let none : examined + 0 ≡ examined = omega arith in
-          rw (e, sum, read) (rw (← step, none) at walk-stepped)
+          rw (e, sum, again) (rw (← step, none) at walk-stepped)
 
       -- where it is not, it goes on to a son
       module _ (right : Bool) (next more : ℕ) (after : List ℕ) (son : next ≡ sonOf row right)

@@ -56,9 +56,10 @@ fn walk(limits: Limits, table: &[u16], store: &[u8], label: &[u8], root: usize) 
                         false
                     }
                     Order::Same => {
+                        let found = words::read_row(table, link);
                         return SearchAnswer::Found {
                             slot: link,
-                            value: row.value,
+                            value: found.value,
                             visits: limits.depth - remaining + 1,
                             places,
                         };
@@ -70,7 +71,7 @@ fn walk(limits: Limits, table: &[u16], store: &[u8], label: &[u8], root: usize) 
                 }
             }
         };
-        link = nodes::son(row, right) as usize;
+        link = nodes::son_at(table, link, right) as usize;
         remaining -= 1;
     }
 }

@@ -9,7 +9,7 @@ use lib.ListN.{length, take, drop}
 use Rattle.types.specs.declared.Limits.{Limits}
 use Rattle.types.specs.Sizes.{tableLength, storeLength}
 use Rattle.types.specs.Answers.{Answer, found, absent, updated, listed, done, refused}
-use Rattle.labels.specs.Labels.{Label}
+use Rattle.labels.specs.Labels.{Label, Alike}
 use Rattle.trees.specs.Trees.{Entry, Tree, NodeOf, size}
 use Rattle.trees.specs.Heights.{least}
 use Rattle.trees.specs.Searches.{fullSearch}
@@ -64,21 +64,22 @@ pub record LabelFits (limits : Limits) (x : Label) : Type 0 where
   pub some : 1 ≤ length x
   pub short : length x ≤ limits .width
 
--- what a search answer says of the value held
-abbrev pub valueSaid : Answer → Option ℕ
-valueSaid (found slot value visits places) = some value
-valueSaid (absent visits places) = none
-valueSaid (updated slot visits places) = none
-valueSaid (listed count) = none
-valueSaid done = none
-valueSaid (refused number) = none
+-- what a search answer says is held: the label that its slot shows, and the value
+abbrev pub pairSaid : Limits → Memory → Answer → Option Pair
+pairSaid limits m (found slot value visits places) = some (record { label = labelIn limits m slot; value = value })
+pairSaid limits m (absent visits places) = none
+pairSaid limits m (updated slot visits places) = none
+pairSaid limits m (listed count) = none
+pairSaid limits m done = none
+pairSaid limits m (refused number) = none
 
--- search answers as lookup, with the slot of the label, and is not refused
+-- search answers as lookup: the value, and "the spelling first stored is the one shown" (M-104 of document 02), which
+-- is alike to the label sought; it is not refused
 pub record SearchLooksUp (limits : Limits) (m : Memory) (x : Label) : Type 0 where
-  pub value : valueSaid (searchOutcome limits (m .table) (m .store) x) ≡ lookup x (mapIn limits m)
+  pub pair : pairSaid limits m (searchOutcome limits (m .table) (m .store) x) ≡ lookup x (mapIn limits m)
   pub slot :
       (k v visits places : ℕ) → searchOutcome limits (m .table) (m .store) x ≡ found k v visits places
-      → labelIn limits m k ≡ x
+      → Alike x (labelIn limits m k)
   pub answered : (number : ℕ) → searchOutcome limits (m .table) (m .store) x ≡ refused number → ⊥
 
 -- an update's answer, as the map has it: done, or refused by a number
@@ -94,16 +95,16 @@ said (listed count) = accepted
 said done = accepted
 said (refused number) = refused-by number
 
-abbrev pub insertSaid : Option ℕ → (held capacity : ℕ) → Said → Type 0
-insertSaid (some value) held capacity a = a ≡ refused-by 7
+abbrev pub insertSaid : Option Pair → (held capacity : ℕ) → Said → Type 0
+insertSaid (some p) held capacity a = a ≡ refused-by 7
 insertSaid none held capacity a = (capacity ≤ held → a ≡ refused-by 9) × (held < capacity → a ≡ accepted)
 
 abbrev pub mapAfterInsert : Said → Pair → List Pair → List Pair
 mapAfterInsert accepted new m = insertion new m
 mapAfterInsert (refused-by number) new m = m
 
-abbrev pub deleteSaid : Option ℕ → Said → Type 0
-deleteSaid (some value) a = a ≡ accepted
+abbrev pub deleteSaid : Option Pair → Said → Type 0
+deleteSaid (some p) a = a ≡ accepted
 deleteSaid none a = a ≡ refused-by 8
 
 pub record UpdatesMap (limits : Limits) (m : Memory) (x : Label) (value : ℕ) : Type 0 where
@@ -156,17 +157,17 @@ pub record SearchAgrees (limits : Limits) (x : Label) (m : Memory) (t : Tree) : 
   -- places at most the sought label's length plus the visits
   pub short : placesOf (searchSteps limits (m .table) (m .store) x) ≤ length x + length (fullSearch x t .visited)
 
--- "Search: found with the node's slot and value, or absent": where a node of the plain tree has the label, the search
--- is answered found with that node's slot and value; and it is answered found nowhere else
+-- "Search: found with the node's slot and value, or absent": where a node of the plain tree has the label, in this or
+-- another spelling, the search is answered found with that node's slot and value; and it is answered found nowhere else
 pub record FindsHeld (limits : Limits) (x : Label) (m : Memory) (t : Tree) : Type 0 where
   pub held :
-      (e : Entry) → NodeOf e t → e .label ≡ x
+      (e : Entry) → NodeOf e t → Alike x (e .label)
       → searchOutcome limits (m .table) (m .store) x
       ≡ found (e .slot) (e .value) (visitsOf (searchSteps limits (m .table) (m .store) x))
       (placesOf (searchSteps limits (m .table) (m .store) x))
   pub only :
       (slot value visits places : ℕ) → searchOutcome limits (m .table) (m .store) x ≡ found slot value visits places
-      → (e : Entry) × NodeOf e t × (e .label ≡ x) × (e .slot ≡ slot) × (e .value ≡ value)
+      → (e : Entry) × NodeOf e t × Alike x (e .label) × (e .slot ≡ slot) × (e .value ≡ value)
 
 -- what a call of the list answers and leaves
 abbrev pub callOutcome : Limits → Call → Memory → Outcome

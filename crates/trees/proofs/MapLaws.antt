@@ -6,23 +6,22 @@ use mathlib.Core.List.{_∷_, _++_, map-append, map-map}
 use mathlib.Core.Option.{Option, none, some}
 use mathlib.Core.Path.{_≡_, refl, sym, ap, _∙_}
 use mathlib.Core.Bool.{true}
-use Prim.Native.Nat.{ℕ}
 use Rattle.labels.specs.Labels.{Label, Comparison, smaller, same, larger, compareLabels}
 use Rattle.labels.specs.Neighbours.{Neighbour, held, none-below, none-above}
 use Rattle.trees.specs.Trees.{Entry, Tree, empty, node, entries, labels}
 use Rattle.trees.specs.Searches.{Held, absent, found, Search, searchBy, fullSearch}
 use Rattle.trees.specs.Updates.{insertedBy, inserted, deletedBy, deleted}
-use Rattle.trees.specs.Map.{lookup, insertion, removal, pairOf, mapOf}
+use Rattle.trees.specs.Map.{Pair, lookup, insertion, removal, pairOf, mapOf}
 use Rattle.trees.specs.Valid.{isSmaller, ascends}
 use Rattle.trees.proofs.Entries.{mapped-node, mapped-rebalanced, mapped-joined}
 use Rattle.trees.proofs.Linked.{Linked, linked-split, linked-past, linked-of-ascends}
 use Rattle.trees.proofs.MapLists.{keys, lookup-past, lookup-before, insertion-past, insertion-before}
 use Rattle.trees.proofs.MapLists.{removal-past, removal-before}
 
--- the value held
-abbrev pub valueOf : Held → Option ℕ
-valueOf absent = none
-valueOf (found e) = some (e .value)
+-- the pair held
+abbrev pub pairIn : Held → Option Pair
+pairIn absent = none
+pairIn (found e) = some (pairOf e)
 
 -- The map has the tree's labels.
 pub keys-of-map : (t : Tree) → keys (mapOf t) ≡ labels t
@@ -31,8 +30,8 @@ keys-of-map t = map-map (λ p. p .label) pairOf (entries t)
 -- at a node whose left son's labels are below its own, what the comparison finds says where the map goes on
 module _ (l : Tree) (e : Entry) (r : Tree) {p : Neighbour} (linked : Linked p (keys (mapOf l)) (held (e .label))) where
   lookup-at-node : (x : Label) (onLeft onRight : Search) (c : Comparison) → compareLabels x (e .label) ≡ c
-      → valueOf (onLeft .result) ≡ lookup x (mapOf l) → valueOf (onRight .result) ≡ lookup x (mapOf r)
-      → valueOf (searchBy c e onLeft onRight .result) ≡ lookup x (mapOf l ++ (pairOf e ∷ mapOf r))
+      → pairIn (onLeft .result) ≡ lookup x (mapOf l) → pairIn (onRight .result) ≡ lookup x (mapOf r)
+      → pairIn (searchBy c e onLeft onRight .result) ≡ lookup x (mapOf l ++ (pairOf e ∷ mapOf r))
   lookup-at-node x onLeft onRight (smaller i) finds there elsewhere =
       there ∙ sym (lookup-before (pairOf e) (mapOf r) x (mapOf l) finds)
   lookup-at-node x onLeft onRight (same i) finds elsewhere further =
@@ -74,7 +73,7 @@ parts-of-node : {p s : Neighbour} (l : Tree) (e : Entry) (r : Tree) → LinkedMa
 parts-of-node l e r linked = linked-split (keys (mapOf l)) (simp map-append at linked)
 
 lookup-of-linked : {p s : Neighbour} (x : Label) (t : Tree) → LinkedMap p t s
-    → valueOf (fullSearch x t .result) ≡ lookup x (mapOf t)
+    → pairIn (fullSearch x t .result) ≡ lookup x (mapOf t)
 lookup-of-linked x empty linked = refl
 lookup-of-linked x (node l e r) linked =
     let parts = parts-of-node l e r linked in
@@ -103,7 +102,7 @@ module _ (t : Tree) (ascending : ascends (labels t) ≡ true) where
   map-linked = rw keys-of-map (linked-of-ascends (labels t) ascending)
 
   -- The full search finds what the map holds.
-  pub lookup-of-search : (x : Label) → valueOf (fullSearch x t .result) ≡ lookup x (mapOf t)
+  pub lookup-of-search : (x : Label) → pairIn (fullSearch x t .result) ≡ lookup x (mapOf t)
   lookup-of-search x = lookup-of-linked x t map-linked
 
   -- Insert on the tree is insertion on the map.

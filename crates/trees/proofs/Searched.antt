@@ -1,15 +1,14 @@
 -- What a full search finds.
--- found-label: the node that a search found has the label sought.
+-- found-alike: the node that a search found has a label alike to the one sought.
 -- found-node: it is a node of the tree.
 -- node-between: a node of an ordered tree lies within the tree's window.
--- node-found: a search of an ordered tree for the label of one of its nodes finds that node.
-use mathlib.Core.Path.{_≡_, ap, _∙_}
-use Rattle.labels.specs.Labels.{Label, Comparison, smaller, same, larger, compareLabels}
+-- node-found: a search of an ordered tree for a label alike to that of one of its nodes finds that node.
+use mathlib.Core.Path.{_≡_}
+use Rattle.labels.specs.Labels.{Label, Alike, Comparison, smaller, same, larger, compareLabels}
 use Rattle.labels.specs.Labels.{Finds, is-smaller, is-same, is-larger}
 use Rattle.labels.specs.Neighbours.{Neighbour, held}
 use Rattle.labels.proofs.Compare.{compares-by-places}
-use Rattle.labels.proofs.Equal.{alike-equal}
-use Rattle.labels.proofs.Alike.{alike-refl}
+use Rattle.labels.proofs.Alike.{below-alike, alike-below}
 use Rattle.labels.proofs.Results.{compare-smaller, compare-same, compare-larger}
 use Rattle.labels.proofs.Difference.{Before, before-trans}
 use Rattle.labels.proofs.Clashes.{clash}
@@ -18,20 +17,19 @@ use Rattle.trees.specs.Searches.{found, Search, searchBy, fullSearch}
 use Rattle.trees.proofs.Sorted.{Between}
 
 found-at-node : (x : Label) (d : Entry) (onLeft onRight : Search) {e : Entry} {c : Comparison} → Finds x (d .label) c
-    → searchBy c d onLeft onRight .result ≡ found e → (onLeft .result ≡ found e → x ≡ e .label)
-    → (onRight .result ≡ found e → x ≡ e .label) → x ≡ e .label
+    → searchBy c d onLeft onRight .result ≡ found e → (onLeft .result ≡ found e → Alike x (e .label))
+    → (onRight .result ≡ found e → Alike x (e .label)) → Alike x (e .label)
 found-at-node x d onLeft onRight (is-smaller there) finds left right = left finds
 found-at-node x d onLeft onRight {e} (is-same alike end) finds left right =
-    let here : d ≡ e = cc in
-    alike-equal x (d .label) alike ∙ ap (λ (n : Entry). n .label) here
+    let here : d ≡ e = cc in rw here at alike
 found-at-node x d onLeft onRight (is-larger there) finds left right = right finds
 
--- The node that a search found has the label sought.
-pub found-label : (x : Label) (t : Tree) {e : Entry} → fullSearch x t .result ≡ found e → x ≡ e .label
-found-label x empty finds = clash cc
-found-label x (node l d r) finds =
+-- The node that a search found has a label alike to the one sought.
+pub found-alike : (x : Label) (t : Tree) {e : Entry} → fullSearch x t .result ≡ found e → Alike x (e .label)
+found-alike x empty finds = clash cc
+found-alike x (node l d r) finds =
     found-at-node x d (fullSearch x l) (fullSearch x r) (compares-by-places x (d .label)) finds
-    (found-label x l) (found-label x r)
+    (found-alike x l) (found-alike x r)
 
 node-by : (l r : Tree) (d : Entry) (onLeft onRight : Search) (c : Comparison) {e : Entry}
     → searchBy c d onLeft onRight .result ≡ found e → (onLeft .result ≡ found e → NodeOf e l)
@@ -57,13 +55,13 @@ node-between between (on-right there) =
     let within = node-between (between .on-right) there in
     (before-trans (between .above) (within .0), within .1)
 
--- A search of an ordered tree for the label of one of its nodes finds that node.
-pub node-found : (p s : Neighbour) {t : Tree} {e : Entry} → Between p s t → NodeOf e t
-    → fullSearch (e .label) t .result ≡ found e
-node-found p s {e = e} between at-root = rw (compare-same (alike-refl (e .label)))
-node-found p s between (on-left {d = d} there) =
-    rw (compare-smaller (node-between (between .on-left) there .1))
-    (node-found p (held (d .label)) (between .on-left) there)
-node-found p s between (on-right {d = d} there) =
-    rw (compare-larger (node-between (between .on-right) there .0))
-    (node-found (held (d .label)) s (between .on-right) there)
+-- A search of an ordered tree for a label alike to that of one of its nodes finds that node.
+pub node-found : (p s : Neighbour) (x : Label) {t : Tree} {e : Entry} → Between p s t → NodeOf e t → Alike x (e .label)
+    → fullSearch x t .result ≡ found e
+node-found p s x between at-root alike = rw (compare-same alike)
+node-found p s x between (on-left {d = d} there) alike =
+    rw (compare-smaller (alike-below (node-between (between .on-left) there .1) alike))
+    (node-found p (held (d .label)) x (between .on-left) there alike)
+node-found p s x between (on-right {d = d} there) alike =
+    rw (compare-larger (below-alike (node-between (between .on-right) there .0) alike))
+    (node-found (held (d .label)) s x (between .on-right) there alike)

@@ -9,12 +9,13 @@ pub record Pair : Type 0 where
   pub label : Label
   pub value : ℕ
 
-abbrev pub lookupBy : Comparison → Pair → Option ℕ → Option ℕ
+abbrev pub lookupBy : Comparison → Pair → Option Pair → Option Pair
 lookupBy (smaller i) p further = none
-lookupBy (same i) p further = some (p .value)
+lookupBy (same i) p further = some p
 lookupBy (larger i) p further = further
 
-abbrev pub lookup : Label → List Pair → Option ℕ
+-- the pair held under a label, spelled as it was stored
+abbrev pub lookup : Label → List Pair → Option Pair
 lookup x [] = none
 lookup x (p ∷ more) = lookupBy (compareLabels x (p .label)) p (lookup x more)
 
@@ -23,7 +24,7 @@ insertionBy (smaller i) new p more further = new ∷ p ∷ more
 insertionBy (same i) new p more further = p ∷ more
 insertionBy (larger i) new p more further = p ∷ further
 
--- a pair set in at its label's place; a label that is held keeps its value
+-- a pair set in at its label's place; a label that is held, however it is spelled, keeps its spelling and its value
 abbrev pub insertion : Pair → List Pair → List Pair
 insertion new [] = new ∷ []
 insertion new (p ∷ more) = insertionBy (compareLabels (new .label) (p .label)) new p more (insertion new more)

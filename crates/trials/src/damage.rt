@@ -3,6 +3,7 @@ use images::memory;
 use images::memory::Image;
 use plans::changes;
 use plans::changes::KINDS;
+use plans::changes::OLD;
 use reports::tallies;
 use reports::tallies::CALLS;
 use reports::tallies::CHANGES;
@@ -11,11 +12,18 @@ use reports::tallies::SOUND;
 use reports::tallies::Tally;
 use samples::numbers;
 use samples::shapes;
+use samples::shapes::Label;
 use std::num::wrapping_add_usize;
 
 // Makes the changes of each kind on a table of a shape, and prints a line for each.
 pub fn run(image: &Image, shape: usize) {
     for kind in 0..KINDS {
+        run_kind(image, shape, kind);
+    }
+}
+
+fn run_kind(image: &Image, shape: usize, kind: usize) {
+    if changes::times(shape, kind) > 0 {
         let tally = group(image, shape, kind);
         tallies::print_damage(memory::is_page(image), shape, kind, tally);
     }
@@ -53,19 +61,39 @@ fn drawn(image: &Image, shape: usize, kind: usize, seed: u64, tally: Tally) -> T
     if !changes::make(image, &mut copy, kind, seed) {
         return tally;
     }
-    every(&copy, shape, seed, tally)
+    every(&copy, shape, kind, seed, tally)
 }
 
-// Makes every call on changed memory, with a label of the shape and a slot, and counts.
-fn every(image: &Image, shape: usize, seed: u64, tally: Tally) -> Tally {
+// Makes every call on changed memory, with a label and a slot, and counts.
+fn every(image: &Image, shape: usize, kind: usize, seed: u64, tally: Tally) -> Tally {
     let mut label = [0u8; 66];
     let width = memory::entry(image, memory::WIDTH);
-    let n = shapes::write(&mut label, width, shape, numbers::below(seed, 80));
+    let n = write_label(&mut label, width, shape, kind, seed);
     let slots = wrapping_add_usize(memory::entry(image, memory::SLOTS), 8);
     let slot = numbers::below(numbers::next(seed), numbers::least(80, slots));
     let changed = tallies::one_more(tally, CHANGES);
     let counted = tallies::one_more_if(changed, SOUND, audits::sound::is_sound(image));
     calls(image, shapes::opening(&label, n), slot, counted)
+}
+
+// Writes a label of the shape, and for an old table one that fits it; gives its length.
+fn write_label(label: &mut Label, width: usize, shape: usize, kind: usize, seed: u64) -> usize {
+    if kind == OLD {
+        return write_old(label, width, shape, seed);
+    }
+    shapes::write(label, width, shape, numbers::below(seed, 80))
+}
+
+// Three times of four a label that the table may hold, else any of letters.
+fn write_old(label: &mut Label, width: usize, shape: usize, seed: u64) -> usize {
+    let draw = numbers::mixed_seed(seed, OLD);
+    let k = numbers::below(draw, 80);
+    if numbers::below(numbers::next(draw), 4) == 0 {
+        return shapes::write(label, width, shapes::LETTERS, k);
+    }
+    let n = shapes::write(label, width, shape, k);
+    changes::write_old(label, seed);
+    n
 }
 
 fn calls(image: &Image, label: &[u8], slot: usize, tally: Tally) -> Tally {

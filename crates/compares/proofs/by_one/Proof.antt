@@ -1,5 +1,5 @@
 -- `compares::by_one` meets its contract.
--- The invariant: what is left to compare at the index i is what was left at the start.
+-- The invariant: what is left to compare at the index reached is what was left at the start.
 -- The measure: the bytes left up to the shorter end.
 use Prim.Native.Nat.{_-_, _≤_}
 use mathlib.Core.Path.{_≡_, refl}
@@ -7,7 +7,7 @@ use native.Mathlib.Omega.{arith}
 use lib.ListN.{length}
 use borrow.Author.Needs.{needs}
 use Rattle.compares.specs.Compares.{rest}
-use Rattle.compares.proofs.Laws.{stops-from, passes-from, ends-from}
+use Rattle.compares.proofs.Laws.{passes, stops-smaller, stops-larger, ends-from}
 use Rattle.compares.proofs.by_one.Statement.{statement}
 use Rattle.compares.proofs.by_one.Tie as tie
 
@@ -20,35 +20,47 @@ abbrev μ-loop : tie.MeasureT-loop
 loop-holds : tie.Need-loop-holds Inv-loop μ-loop
 loop-holds c = (omega arith, (omega arith, refl))
 
-one-requires : tie.Need-one-requires Inv-loop μ-loop
-one-requires c κs = search needs
+shared-slice-read-by-letters : tie.Need-shared-slice-read-by-letters Inv-loop μ-loop
+shared-slice-read-by-letters c = search needs
+
+shared-slice-read-by-letters-2 : tie.Need-shared-slice-read-by-letters-2 Inv-loop μ-loop
+shared-slice-read-by-letters-2 c = search needs
+
+by-letters-requires : tie.Need-by-letters-requires Inv-loop μ-loop
+by-letters-requires c κs = search needs
 
 add-place : tie.Need-add-place Inv-loop μ-loop
 add-place c = omega arith
 
-add-place-2 : tie.Need-add-place-2 Inv-loop μ-loop
-add-place-2 c = omega arith
+enum-told : tie.Need-enum-told Inv-loop μ-loop
+enum-told c = search needs
 
 returns : tie.Need-returns Inv-loop μ-loop
-returns c = (search stops-from, search needs)
+returns c = (search stops-smaller, search needs)
 
-add-i : tie.Need-add-i Inv-loop μ-loop
-add-i c = omega arith
+enum-told-2 : tie.Need-enum-told-2 Inv-loop μ-loop
+enum-told-2 c = search needs
 
 loop-less : tie.Need-loop-less Inv-loop μ-loop
 loop-less c = omega arith
 
 loop-again : tie.Need-loop-again Inv-loop μ-loop
-loop-again c = (omega arith, (omega arith, search passes-from))
+loop-again c = (omega arith, (omega arith, search passes))
+
+enum-told-3 : tie.Need-enum-told-3 Inv-loop μ-loop
+enum-told-3 c = search needs
+
+returns-2 : tie.Need-returns-2 Inv-loop μ-loop
+returns-2 c = (search stops-larger, search needs)
 
 at-end-requires : tie.Need-at-end-requires Inv-loop μ-loop
 at-end-requires c κs = search needs
 
-add-place-3 : tie.Need-add-place-3 Inv-loop μ-loop
-add-place-3 c = omega arith
+add-place-2 : tie.Need-add-place-2 Inv-loop μ-loop
+add-place-2 c = omega arith
 
-returns-2 : tie.Need-returns-2 Inv-loop μ-loop
-returns-2 c = (search ends-from, search needs)
+returns-3 : tie.Need-returns-3 Inv-loop μ-loop
+returns-3 c = (search ends-from, search needs)
 
 pub by-one-spec : {M : Type 1} → statement M
 by-one-spec =
@@ -57,13 +69,17 @@ by-one-spec =
     Inv-loop
     μ-loop
     loop-holds
-    one-requires
+    shared-slice-read-by-letters
+    shared-slice-read-by-letters-2
+    by-letters-requires
     add-place
-    add-place-2
+    enum-told
     returns
-    add-i
+    enum-told-2
     loop-less
     loop-again
+    enum-told-3
+    returns-2
     at-end-requires
-    add-place-3
-    returns-2)
+    add-place-2
+    returns-3)

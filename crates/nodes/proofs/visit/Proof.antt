@@ -25,8 +25,8 @@ enum-told-2 c = search needs
 enum-told-3 : tie.Need-enum-told-3
 enum-told-3 c = search needs
 
-compare-row-requires : tie.Need-compare-row-requires
-compare-row-requires c κs = search needs
+compare-by-table-requires : tie.Need-compare-by-table-requires
+compare-by-table-requires c κs = search needs
 
 decide-requires : tie.Need-decide-requires
 decide-requires c κs = search needs
@@ -51,7 +51,7 @@ visit-spec =
     enum-told
     enum-told-2
     enum-told-3
-    compare-row-requires
+    compare-by-table-requires
     decide-requires
     returns
     returns-2

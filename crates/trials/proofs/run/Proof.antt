@@ -9,7 +9,7 @@ abbrev Inv-loop : tie.InvT-loop
 Inv-loop image₀ map₀ group₀ image map group = group₀ ≤ group
 
 abbrev μ-loop : tie.MeasureT-loop
-μ-loop image₀ map₀ group₀ image map group = 14 - group
+μ-loop image₀ map₀ group₀ image map group = 20 - group
 
 loop-holds : tie.Need-loop-holds Inv-loop μ-loop
 loop-holds c = search needs

@@ -8,7 +8,7 @@ use borrow.Author.Needs.{needs}
 use Rattle.tables.specs.Steps.{steps}
 use Rattle.tables.specs.Outcomes.{walkAnswer}
 use Rattle.nodes.specs.Bounds.{AtRow, Live}
-use Rattle.nodes.proofs.Rows.{live, live-row, live-side, live-slot}
+use Rattle.nodes.proofs.Rows.{live, live-row, live-side, live-slot, son-of-row}
 use Rattle.search.proofs.Moves.{Went, went-as, went-left, went-right, went-smaller, went-larger, ended-same}
 use Rattle.search.proofs.Answers.{Reached, reached-root, reached-son, walk-halted, walk-found}
 use Rattle.search.proofs.walks.walk.Statement.{statement}
@@ -114,25 +114,32 @@ array-write-ends c = search needs
 enum-told-5 : tie.Need-enum-told-5 Inv-loop μ-loop
 enum-told-5 c = search needs
 
-sub-t30 : tie.Need-sub-t30 Inv-loop μ-loop
-sub-t30 c = search needs
+read-row-requires-2 : tie.Need-read-row-requires-2 Inv-loop μ-loop
+read-row-requires-2 c κs = search live-row
 
-add-t31 : tie.Need-add-t31 Inv-loop μ-loop
-add-t31 c =
-    let deep = start (read (c .before .before .before .before .before .before)) .pre .fit .depth in
+sub-t31 : tie.Need-sub-t31 Inv-loop μ-loop
+sub-t31 c =
+    let at = read (c .before .before .before .before .before .before .before) in
+    let within = reached at .loop .inv .within in
+    omega arith
+
+add-t32 : tie.Need-add-t32 Inv-loop μ-loop
+add-t32 c =
+    let deep = start (read (c .before .before .before .before .before .before .before)) .pre .fit .depth in
     record { fits = omega arith }
 
 returns-2 : tie.Need-returns-2 Inv-loop μ-loop
 returns-2 c =
-    let compared = c .before .before .before in
+    let compared = c .before .before .before .before in
+    let again = c .before .read-row2 .ensures in
     let turn = compared .before .before .before in
     let at = read turn in
     let loop = reached at .loop in
     let found = ended-same _ _ _ _ _ (loop .places) (loop .ends) _ (slot at) (loop .inv .two) (turn .turn .ensures)
     (compared .before .enum-told3 .given .1) _ (compared .compare-row .ensures .0) (compared .compare-row .ensures .1)
-    (c .before .enum-told5 .given .1) in
+    (c .before .before .enum-told5 .given .1) in
     walk-found _ _ _ _ _ _ _ _ _ (loop .inv) _ (tested at .before .halts .ensures) (tested at .if1 .left) _
-    (at .read-row .ensures) _ _ _ found refl (omega arith)
+    (at .read-row .ensures) _ again _ _ _ found refl (omega arith)
 
 enum-told-6 : tie.Need-enum-told-6 Inv-loop μ-loop
 enum-told-6 c = search needs
@@ -166,8 +173,8 @@ went c =
     (w .2 .ensures .1) (w .4 .given .1)))))
     (c .match .came)
 
-son-requires : tie.Need-son-requires Inv-loop μ-loop
-son-requires c κs = search needs
+son-at-requires : tie.Need-son-at-requires Inv-loop μ-loop
+son-at-requires c κs = search live-row
 
 cast-link : tie.Need-cast-link Inv-loop μ-loop
 cast-link c = search needs
@@ -182,7 +189,7 @@ loop-again : tie.Need-loop-again Inv-loop μ-loop
 loop-again c =
     let at = read (c .before .before) in
     reached-son _ _ _ _ _ _ _ _ _ (reached at .loop .inv) _ (tested at .before .halts .ensures) (tested at .if1 .left) _
-    (at .read-row .ensures) _ _ _ _ (c .son .ensures) (went (c .before))
+    (at .read-row .ensures) _ _ _ _ (son-of-row _ _ _ _ (at .read-row .ensures) (c .son-at .ensures)) (went (c .before))
 
 pub walk-spec : {M : Type 1} → statement M
 walk-spec =
@@ -211,12 +218,13 @@ walk-spec =
     enum-told-4
     array-write-ends
     enum-told-5
-    sub-t30
-    add-t31
+    read-row-requires-2
+    sub-t31
+    add-t32
     returns-2
     enum-told-6
     array-write-ends-2
-    son-requires
+    son-at-requires
     cast-link
     sub-remaining
     loop-less

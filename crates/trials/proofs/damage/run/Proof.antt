@@ -9,19 +9,13 @@ abbrev Inv-loop : tie.InvT-loop
 Inv-loop image shape kind₀ kind = kind₀ ≤ kind
 
 abbrev μ-loop : tie.MeasureT-loop
-μ-loop image shape kind₀ kind = 8 - kind
+μ-loop image shape kind₀ kind = 9 - kind
 
 loop-holds : tie.Need-loop-holds Inv-loop μ-loop
 loop-holds c = search needs
 
-group-requires : tie.Need-group-requires Inv-loop μ-loop
-group-requires c κs = search needs
-
-is-page-requires : tie.Need-is-page-requires Inv-loop μ-loop
-is-page-requires c κs = search needs
-
-print-damage-requires : tie.Need-print-damage-requires Inv-loop μ-loop
-print-damage-requires c κs = search needs
+run-kind-requires : tie.Need-run-kind-requires Inv-loop μ-loop
+run-kind-requires c κs = search needs
 
 add-kind : tie.Need-add-kind Inv-loop μ-loop
 add-kind c = search needs
@@ -38,14 +32,4 @@ returns c = search needs
 pub run-spec : {M : Type 1} → statement M
 run-spec =
     tie.close
-    (tie.spec
-    Inv-loop
-    μ-loop
-    loop-holds
-    group-requires
-    is-page-requires
-    print-damage-requires
-    add-kind
-    loop-less
-    loop-again
-    returns)
+    (tie.spec Inv-loop μ-loop loop-holds run-kind-requires add-kind loop-less loop-again returns)
