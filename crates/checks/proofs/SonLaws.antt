@@ -87,12 +87,12 @@ module _ (limits : Limits) (table store : List ℕ) (remaining link below above 
       -- its left son lies below it, its right son above it
       pub window-left : WalkFits limits table store (remaining - 1) below link lower
       window-left =
-          let node = beside-held limits table store true link some in
+          let node = beside-held limits table store true link (omega arith) in
           walk-on below link lower (fits .between .lower) window (rw node (ordered .above)) (rw node (known .below))
 
       pub window-right : WalkFits limits table store (remaining - 1) link above upper
       window-right =
-          let node = beside-held limits table store false link some in
+          let node = beside-held limits table store false link (omega arith) in
           walk-on link above upper window (fits .between .upper) (rw node (ordered .below)) (rw node (known .above))
 
     -- the subtree is what its sons give

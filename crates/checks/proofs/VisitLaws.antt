@@ -13,9 +13,10 @@ use Rattle.labels.specs.Neighbours.{Neighbour}
 use Rattle.trees.proofs.Views.{both-true}
 use Rattle.trees.proofs.Passing.{false-not-true}
 use Rattle.tables.specs.Words.{rowAt}
+use Rattle.gaps.specs.Gapped.{bothWhen}
 use Rattle.gaps.specs.declared.Gaps.{Gaps}
 use Rattle.gaps.specs.declared.Gaps.the-variants.{Broken, Both}
-use Rattle.nodechecks.specs.Nodes.{nodeFine, usedRow, bothWhen, fineGaps}
+use Rattle.nodechecks.specs.Nodes.{nodeFine, usedRow, fineGaps}
 use Rattle.nodechecks.proofs.RowLaws.{used-short}
 use Rattle.checks.specs.Visits.{testedBy, nodeTested}
 use Rattle.checks.specs.declared.Node.the-variants.{Wrong, Fine}

@@ -1,34 +1,44 @@
 -- The comparison of two labels, by what is left at an index.
--- `rest-start`: at the start all is left.  `four-same`: four bytes that both have leave it to the index after them.
+-- `rest-start`: at the start all is left.  `rest-later`: it ends after the index.
+-- `rest-both`: it is told by the bytes there and by what is left after them.
+-- `none-same` to `four-same`, `past-some`, `past-four`: bytes that both have leave it to the index after them.
 -- `passes`, `stops-smaller`, `stops-larger`: bytes of one number leave it to the next index, others end it.
 -- `ends-from`: the end of a label ends it.
 -- `place-end`, `place-smaller`, `place-larger`, `place-next`: the same of the whole comparison, at a place reached.
 -- `first-end`, `first-other-end`, `first-smaller`, `first-larger`, `first-same`: at the first place.
+-- `order-end`, `order-other-end`, `order-bytes`: the order at the first place alone.
+-- `order-elsewhere`: the order at a place where a comparison does not end.
 use Prim.Native.Nat.{ℕ, suc, _+_, _-_, _≤_, _<_, min, compare}
 use mathlib.Core.Path.{_≡_, refl, sym, _∙_}
-use mathlib.Core.Bool.{Bool, true, false, cond, false≢true}
+use mathlib.Core.Bool.{Bool, cond}
 use native.Mathlib.Numerals.{add-one}
 use native.Mathlib.Omega.{arith}
-use lib.Dec.{eqb}
 use lib.ListN.{length, getD, drop, drop-of-length-le}
 use lib.Seq.{drop-cons}
-use borrow.Author.Tests.{eqb-true, lt-ltb}
-use Rattle.labels.specs.Labels.{Label, Comparison, numberOf, compareNumbers, compareAt, compareFrom}
+use borrow.Author.Tests.{lt-ltb, eq-eqb, ne-eqb}
+use Rattle.labels.specs.Labels.{Label, Comparison, smaller, same, larger, numberOf, placeOf}
+use Rattle.labels.specs.Labels.{compareNumbers, compareAt, compareFrom}
+use Rattle.labels.proofs.Ends.{ends-of-compare}
 use Rattle.labels.proofs.Numbers.{Ltb, lt-yes, lt-no, ltb-view}
 use Rattle.orders.specs.Orders.{comparisonBy, byNumbers, atEnd}
 use Rattle.orders.specs.declared.Order.{Order}
 use Rattle.orders.specs.declared.Order.the-variants.{Smaller, Same, Larger}
 use Rattle.orders.proofs.OrderLaws.{decided, compare-decided, same-bytes}
-use Rattle.compares.specs.Compares.{rest, SameFour}
+use Rattle.compares.specs.Compares.{rest, orderAt, HavePlaces}
 
 -- at the start all is left
 pub rest-start : (d : ℕ) (x y : Label) → 1 ≤ d → rest x y (d - 1) ≡ compareFrom d x y
 unfolding rest compareFrom
 rest-start d x y positive = let e : suc (d - 1) ≡ d = omega arith in rw e
 
+-- what is left at index i ends after it
+pub rest-later : (x y : Label) (i : ℕ) → i < placeOf (rest x y i)
+unfolding rest
+rest-later x y i = omega (arith, ends-of-compare (suc i) (drop i x) (drop i y) .from)
+
 module _ (x y : Label) (i : ℕ) where
   -- what is left after both bytes at index i
-  rest-both : i < length x → i < length y
+  pub rest-both : i < length x → i < length y
       → rest x y i ≡ compareNumbers (compare (numberOf (getD x i 0)) (numberOf (getD y i 0))) (suc i) (rest x y (suc i))
   unfolding rest
   rest-both p q = rw (drop-cons x i 0, drop-cons y i 0)
@@ -53,36 +63,41 @@ module _ (x y : Label) (i : ℕ) (more : i < length x) (also : i < length y) whe
 
   -- a byte that both have leaves it to the next index
   next-same : getD x i 0 ≡ getD y i 0 → rest x y (suc i) ≡ rest x y i
-  next-same same = rw (← same-bytes (getD x i 0) (getD y i 0) same) at by-order
+  next-same equal = rw (← same-bytes (getD x i 0) (getD y i 0) equal) at by-order
 
--- a test of four bytes that has failed, and one that is left to the fourth byte
-pub unlike-four : (x y : Label) (i : ℕ) → SameFour false x y i
-unlike-four x y i =
-    record {
-      first = λ is. absurd (false≢true is);
-      second = λ is. absurd (false≢true is);
-      third = λ is. absurd (false≢true is);
-      fourth = λ is. absurd (false≢true is);
-    }
+-- the bytes from index i on that both labels have leave it to the index after them
+pub none-same : (x y : Label) (i : ℕ) → rest x y (i + 0) ≡ rest x y i
+none-same x y i = let at : i + 0 ≡ i = omega arith in rw at
 
-pub test-four : (x y : Label) (i : ℕ) → getD x i 0 ≡ getD y i 0 → getD x (i + 1) 0 ≡ getD y (i + 1) 0
-    → getD x (i + 2) 0 ≡ getD y (i + 2) 0 → SameFour (eqb (getD x (i + 3) 0) (getD y (i + 3) 0)) x y i
-test-four x y i first second third =
-    record { first = λ is. first; second = λ is. second; third = λ is. third; fourth = λ is. eqb-true _ _ is }
+module _ (x y : Label) (i : ℕ) (have : HavePlaces 4 x y i) (first : getD x i 0 ≡ getD y i 0) where
+  pub one-same : rest x y (i + 1) ≡ rest x y i
+  one-same = let at : i + 1 ≡ suc i = omega arith in rw at (next-same x y i (omega arith) (omega arith) first)
 
--- four bytes that both labels have leave it to the index after them
-pub four-same : (x y : Label) (i j end : ℕ) (found : Bool) → end ≡ min (length x) (length y) → i + 4 ≤ end
-    → SameFour found x y i → found ≡ true → rest x y i ≡ rest x y j → rest x y (i + 4) ≡ rest x y j
-four-same x y i j end found short long test is so =
-    let one : i + 1 ≡ suc i = omega arith in
-    let two : i + 2 ≡ suc (i + 1) = omega arith in
-    let three : i + 3 ≡ suc (i + 2) = omega arith in
-    let four : i + 4 ≡ suc (i + 3) = omega arith in
-    let first = next-same x y i (omega arith) (omega arith) (test .first is) in
-    let second = next-same x y (i + 1) (omega arith) (omega arith) (test .second is) in
-    let third = next-same x y (i + 2) (omega arith) (omega arith) (test .third is) in
-    let fourth = next-same x y (i + 3) (omega arith) (omega arith) (test .fourth is) in
-    (rw (← four) at fourth) ∙ (rw (← three) at third) ∙ (rw (← two) at second) ∙ (rw (← one) at first) ∙ so
+  module _ (second : getD x (i + 1) 0 ≡ getD y (i + 1) 0) where
+    pub two-same : rest x y (i + 2) ≡ rest x y i
+    two-same =
+        let at : i + 2 ≡ suc (i + 1) = omega arith in
+        (rw at (next-same x y (i + 1) (omega arith) (omega arith) second)) ∙ one-same
+
+    module _ (third : getD x (i + 2) 0 ≡ getD y (i + 2) 0) where
+      pub three-same : rest x y (i + 3) ≡ rest x y i
+      three-same =
+          let at : i + 3 ≡ suc (i + 2) = omega arith in
+          (rw at (next-same x y (i + 2) (omega arith) (omega arith) third)) ∙ two-same
+
+      pub four-same : getD x (i + 3) 0 ≡ getD y (i + 3) 0 → rest x y (i + 4) ≡ rest x y i
+      four-same fourth =
+          let at : i + 4 ≡ suc (i + 3) = omega arith in
+          (rw at (next-same x y (i + 3) (omega arith) (omega arith) fourth)) ∙ three-same
+
+-- so many of four bytes, or all, are passed
+pub past-some : (x y : Label) (i j n : ℕ) → rest x y (i + n) ≡ rest x y i → rest x y i ≡ rest x y j
+    → rest x y (i + n) ≡ rest x y j
+past-some x y i j n passed so = passed ∙ so
+
+pub past-four : (x y : Label) (i j n : ℕ) → rest x y (i + n) ≡ rest x y i → 4 ≤ n → n ≤ 4 → rest x y i ≡ rest x y j
+    → rest x y (i + 4) ≡ rest x y j
+past-four x y i j n passed least most so = let all : n ≡ 4 = omega arith in (rw all at passed) ∙ so
 
 -- where what is left at index i is what was left at index j, and both labels have the byte there
 module _ (x y : Label) (i j end : ℕ) (so : rest x y i ≡ rest x y j) (short : end ≡ min (length x) (length y))
@@ -177,3 +192,37 @@ module _ (x y : Label) (d : ℕ) (positive : 1 ≤ d) where
         let next = place-next x y d d (min (length x) (length y)) positive (omega arith) (rest-start d x y positive)
         refl o (omega arith) order is in
         e ∙ so ∙ (rw at at next)
+
+-- ---- the order at one place
+
+-- of a comparison that ends there it is the order that was found, of one that ends elsewhere the same
+order-there : (o : Order) (d : ℕ) → o ≡ orderAt d (comparisonBy o d)
+order-there Smaller d = rw (eq-eqb d d refl)
+order-there Same d = refl
+order-there Larger d = rw (eq-eqb d d refl)
+
+pub order-elsewhere : (k : Comparison) (d : ℕ) → (d ≡ placeOf k → ⊥) → Same ≡ orderAt d k
+order-elsewhere (smaller i) d other = rw (ne-eqb d i other)
+order-elsewhere (same i) d other = refl
+order-elsewhere (larger i) d other = rw (ne-eqb d i other)
+
+module _ (x y : Label) (d : ℕ) (positive : 1 ≤ d) where
+  order-found : (o : Order) → comparisonBy o d ≡ compareFrom d x y → o ≡ orderAt d (compareFrom d x y)
+  order-found o found = rw (← found) (order-there o d)
+
+  -- x ends there, or y alone
+  pub order-end : (o : Order) → length x ≤ d - 1 → o ≡ atEnd (length x) (length y) (d - 1)
+      → o ≡ orderAt d (compareFrom d x y)
+  order-end o over e = order-found o (first-end x y d positive o over e)
+
+  pub order-other-end : d - 1 < length x → length y ≤ d - 1 → Larger ≡ orderAt d (compareFrom d x y)
+  order-other-end more over = order-found Larger (first-other-end x y d positive more over)
+
+  -- by the order of the bytes there
+  pub order-bytes : (o : Order) → d - 1 < length x → d - 1 < length y
+      → o ≡ byNumbers (getD x (d - 1) 0) (getD y (d - 1) 0) → o ≡ orderAt d (compareFrom d x y)
+  order-bytes Smaller more also order = order-found Smaller (first-smaller x y d positive Smaller more also order refl)
+  order-bytes Same more also order =
+      rw (← first-same x y d positive Same more also order d (rest x y d) refl refl refl)
+      (order-elsewhere (rest x y d) d (λ e. omega (arith, e, rest-later x y d)))
+  order-bytes Larger more also order = order-found Larger (first-larger x y d positive Larger more also order refl)

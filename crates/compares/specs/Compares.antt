@@ -1,10 +1,13 @@
 -- What a comparison in code says, in the terms of the definition; where it may start, and where it ends.
 use Prim.Native.Nat.{ℕ, suc, _+_, _≤_, min}
 use mathlib.Core.Path.{_≡_}
-use mathlib.Core.Bool.{Bool, true}
-use lib.ListN.{length, getD, drop}
-use Rattle.labels.specs.Labels.{Label, Comparison, compareAt}
+use mathlib.Core.Bool.{cond}
+use lib.Dec.{eqb}
+use lib.ListN.{length, drop}
+use Rattle.labels.specs.Labels.{Label, Comparison, smaller, same, larger, compareAt}
 use Rattle.orders.specs.Orders.{comparisonBy}
+use Rattle.orders.specs.declared.Order.{Order}
+use Rattle.orders.specs.declared.Order.the-variants.{Smaller, Same, Larger}
 use Rattle.compares.specs.declared.Compared.{Compared}
 
 -- the comparison that an answer stands for
@@ -15,17 +18,16 @@ comparisonOf r = comparisonBy (r .order) (r .place)
 unfoldable pub rest : Label → Label → ℕ → Comparison
 rest x y i = compareAt (suc i) (drop i x) (drop i y)
 
+-- the order of two labels by place d: the same where their comparison ends at another
+abbrev pub orderAt : ℕ → Comparison → Order
+orderAt d (smaller i) = cond (eqb d i) Smaller Same
+orderAt d (same i) = Same
+orderAt d (larger i) = cond (eqb d i) Larger Same
+
 -- both labels have the n places from index i
 pub record HavePlaces (n : ℕ) (x y : Label) (i : ℕ) : Type 0 where
   pub first : i + n ≤ length x
   pub second : i + n ≤ length y
-
--- a test of four bytes at index i of two labels, true only where they are the same
-pub record SameFour (found : Bool) (x y : Label) (i : ℕ) : Type 0 where
-  pub first : found ≡ true → getD x i 0 ≡ getD y i 0
-  pub second : found ≡ true → getD x (i + 1) 0 ≡ getD y (i + 1) 0
-  pub third : found ≡ true → getD x (i + 2) 0 ≡ getD y (i + 2) 0
-  pub fourth : found ≡ true → getD x (i + 3) 0 ≡ getD y (i + 3) 0
 
 -- the shorter label ends at `end`, and y has index i, or ends there
 pub record EndsAt (x y : Label) (i end : ℕ) : Type 0 where

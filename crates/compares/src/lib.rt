@@ -1,11 +1,11 @@
 // The comparison of two labels from a place on, by the numbers that their bytes stand for: `compare` for a search,
 // which passes over bytes that are the same and reads no table, and `by_table` for an update. Neither reads a byte past
-// the place at which it ends; the crate `eights` has one that does.
+// the place at which it ends; the crate `eights` has one that does. `at_place` gives the order at one place alone.
 use orders::Order;
 ghost use mathlib.Core.Path.{_≡_};
-ghost use Prim.Native.Nat.{_+_, min};
+ghost use Prim.Native.Nat.{_+_, _≤_, min};
 ghost use Rattle.labels.specs.Labels.{compareFrom};
-ghost use Rattle.compares.specs.Compares.{comparisonOf, rest, HavePlaces, SameFour};
+ghost use Rattle.compares.specs.Compares.{comparisonOf, rest, orderAt, HavePlaces};
 ghost use Rattle.compares.specs.Compares.{StartsWithin, EndsWithin, EndsAt, StaysWithin};
 
 // The order of two labels, and the place at which their comparison ended: the difference place or the shared end's.
@@ -21,34 +21,44 @@ pub fn shorter(one: usize, other: usize) -> usize
     if one < other { one } else { other }
 }
 
-// Whether both labels have the same four bytes from index i on, each tested before the next is read.
-fn same_four(x: &[u8], y: &[u8], i: usize) -> bool
+// How many of the four bytes from index i on are the same before the first that is not; each is tested before the next
+// is read.
+fn same_of_four(x: &[u8], y: &[u8], i: usize) -> usize
     requires { ⌜ HavePlaces 4 (now x) (now y) i ⌝ }
-    ensures { λ r. ⌜ SameFour r (now (x .entry)) (now (y .entry)) i ⌝ }
+    ensures { λ r. ⌜ rest (now (x .entry)) (now (y .entry)) (i + r) ≡ rest (now (x .entry)) (now (y .entry)) i ⌝ }
+    ensures { λ r. ⌜ r ≤ 4 ⌝ }
 {
     if x[i] != y[i] {
-        return false;
+        return 0;
     }
     if x[i + 1] != y[i + 1] {
-        return false;
+        return 1;
     }
     if x[i + 2] != y[i + 2] {
-        return false;
+        return 2;
     }
-    x[i + 3] == y[i + 3]
+    if x[i + 3] != y[i + 3] {
+        return 3;
+    }
+    4
 }
 
-// The first of the indices from, from + 4 and on where four bytes are not the same, or not left; the shorter label ends
-// at `end`.
+// The first index from `from` on where the bytes are not the same, or the first of `from`, `from` + 4 and on where fewer
+// than four are left; the shorter label ends at `end`.
 fn past_fours(x: &[u8], y: &[u8], from: usize, end: usize) -> usize
     requires { ⌜ EndsAt (now x) (now y) from end ⌝ }
     ensures { λ r. ⌜ rest (now (x .entry)) (now (y .entry)) r ≡ rest (now (x .entry)) (now (y .entry)) from ⌝ }
     ensures { λ r. ⌜ StaysWithin from (now (y .entry)) r ⌝ }
 {
+    if end < 4 {
+        return from;
+    }
+    let last = end - 4;
     let mut i = from;
-    while i + 4 <= end {
-        if !same_four(x, y, i) {
-            return i;
+    while i <= last {
+        let same = same_of_four(x, y, i);
+        if same < 4 {
+            return i + same;
         }
         i += 4;
     }
@@ -107,6 +117,21 @@ fn onward(x: &[u8], y: &[u8], from: usize, end: usize) -> Compared
     let order = orders::at_end(x.len(), y.len(), i);
     let place = i + 1;
     Compared { order, place }
+}
+
+// The order at place d alone: the same where it does not end the comparison from there on.
+pub fn at_place(x: &[u8], y: &[u8], d: usize) -> Order
+    requires { ⌜ 1 ≤ d ⌝ }
+    ensures { λ r. ⌜ r ≡ orderAt d (compareFrom d (now (x .entry)) (now (y .entry))) ⌝ }
+{
+    let index = d - 1;
+    if x.len() <= index {
+        return orders::at_end(x.len(), y.len(), index);
+    }
+    if y.len() <= index {
+        return Order::Larger;
+    }
+    orders::by_sight(x[index], y[index])
 }
 
 // How x lies to y by the places from d on. Most comparisons of a search end at place d: it is tested by itself.

@@ -2,7 +2,8 @@
 -- `packed-eight`: eight bytes of a list, packed into one number.
 -- `eight-found`: where two such numbers are equal, the bytes are the same.
 -- `passed-eight`: eight bytes that are the same leave it to the places after them.
-use Prim.Native.Nat.{ℕ, suc, _+_, _*_, _-_, _≤_, _<_, min}
+-- `found-after`: what is found after them is what the comparison from the start finds.
+use Prim.Native.Nat.{ℕ, suc, _+_, _*_, _-_, _≤_, _<_}
 use mathlib.Core.Path.{_≡_, refl, sym, _∙_}
 use mathlib.Core.Bool.{Bool, true}
 use mathlib.Core.List.{List, [], _∷_, _++_}
@@ -12,8 +13,9 @@ use lib.Dec.{eqb}
 use lib.ListN.{length, getD, take, drop, take-append-drop, length-take, length-drop}
 use lib.Seq.{drop-cons, drop-drop}
 use borrow.Author.Tests.{eqb-true}
-use Rattle.labels.specs.Labels.{Label, compareAt, compareFrom}
-use Rattle.compares.specs.Compares.{StartsWithin}
+use Rattle.labels.specs.Labels.{Label, Comparison, compareAt, compareFrom}
+use Rattle.compares.specs.Compares.{rest, HavePlaces}
+use Rattle.compares.proofs.Laws.{rest-start}
 use Rattle.orders.proofs.OrderLaws.{compare-decided, same-bytes}
 use Rattle.eights.specs.Eights.{AreBytes, Packed, packs-none, packs, SameEight}
 
@@ -101,13 +103,15 @@ same-places x y i h e =
     long : length (take 8 (drop i x)) ≡ 8
     long = simp (length-take, length-drop) (omega arith)
 
--- the test of eight bytes from place d on found them the same
-pub passed-eight : (x y : Label) (first d end : ℕ) (found : Bool) → StartsWithin first y → first ≤ d
-    → end ≡ min (length x) (length y) → d + 7 ≤ end → SameEight found x y (d - 1) → found ≡ true
-    → compareFrom d x y ≡ compareFrom first x y → compareFrom (d + 8) x y ≡ compareFrom first x y
-unfolding compareFrom
-passed-eight x y first d end found start low short long test is so =
-    let e : suc (d - 1) ≡ d = omega arith in
-    let f : d + 8 - 1 ≡ d - 1 + 8 = omega arith in
-    let passed = same-places x y (d - 1) (omega arith) (test .same is) in
-    rw f (sym (rw e at passed) ∙ so)
+-- the test of eight bytes from index i on, before an end that both labels have, found them the same
+pub passed-eight : (x y : Label) (i j end : ℕ) (found : Bool) → HavePlaces end x y 0 → 8 ≤ end → i ≤ end - 8
+    → SameEight found x y i → found ≡ true → rest x y i ≡ rest x y j → rest x y (i + 8) ≡ rest x y j
+unfolding rest
+passed-eight x y i j end found have long within test is so =
+    let e : suc i + 8 ≡ suc (i + 8) = omega arith in
+    sym (rw e at (same-places x y i (omega (arith, have .first)) (test .same is))) ∙ so
+
+-- what is found from an index on that was reached from place d
+pub found-after : (x y : Label) (d i : ℕ) (k : Comparison) → 1 ≤ d → k ≡ rest x y i → rest x y i ≡ rest x y (d - 1)
+    → k ≡ compareFrom d x y
+found-after x y d i k positive found so = found ∙ so ∙ rest-start d x y positive

@@ -1,1 +1,2 @@
 pub mod EightLaws
+pub mod AgreeLaws

@@ -1,49 +1,69 @@
 -- A label and its neighbour in a slot of the window, below it or upward of it.
--- `place-passed`: a difference place, where a test passes.
--- `gap-starts`, `gap-smaller`, `gap-same`, `gap-larger`: two labels, by the comparison of the other one with this one.
--- `beside-row`, `beside-inside`, `shown-label`: a slot of the window has a row, and its label lies in the store.
--- `beside-held`, `beside-none`, `beside-starts`, `beside-some`: a label and the one in the slot.
+-- `beside-row`, `beside-inside`, `beside-held`: a slot of the window has a row and a label, which lies in the store.
+-- `gap-positive`: a label parts from the one in the slot at no place before 1.
+-- `parts-whole`, `parts-late`: whether they part at a place, by their order there.
 use Prim.Native.Nat.{ℕ, zero, suc, _≤_}
 use mathlib.Core.Path.{_≡_, refl, sym, ap, _∙_}
 use mathlib.Core.List.{List}
 use mathlib.Core.Bool.{Bool, true, false, not, cond}
 use native.Mathlib.Omega.{arith}
-use denote.Ref.{RefT}
+use lib.Dec.{eqb}
 use Rattle.types.specs.declared.Limits.{Limits}
 use Rattle.labels.specs.Labels.{Label, Comparison, smaller, same, larger, placeOf}
 use Rattle.labels.specs.Labels.{compareFrom, compareLabels, differencePlace}
 use Rattle.labels.specs.Neighbours.{held}
-use Rattle.trees.specs.Valid.{isSmaller}
-use Rattle.tables.specs.Words.{rowAt, entryAt}
-use Rattle.orders.specs.declared.Order.the-variants.{Smaller, Same, Larger}
-use Rattle.compares.specs.declared.Compared.{Compared}
 use Rattle.labels.proofs.Ends.{ends-of-labels}
 use Rattle.labels.proofs.Late.{compare-late}
 use Rattle.labels.proofs.Results.{mirrored, compare-mirrored}
-use Rattle.orders.specs.Orders.{comparisonBy}
-use Rattle.compares.specs.Compares.{comparisonOf, StartsWithin}
-use Rattle.gaps.specs.Gapped.{gapOf, gapToward, gapIn}
+use Rattle.labels.proofs.Clashes.{clash}
+use Rattle.trees.specs.Valid.{isSmaller}
+use Rattle.tables.specs.Words.{rowAt, entryAt}
+use Rattle.orders.specs.declared.Order.{Order}
+use Rattle.orders.specs.declared.Order.the-variants.{Smaller, Same, Larger}
+use Rattle.compares.specs.Compares.{orderAt}
 use Rattle.words.specs.Rows.{HasRow}
-use Rattle.words.specs.Parts.{LabelInside, Shows}
-use Rattle.gaps.specs.Windows.{neighbourIn, Beside, MayStart}
+use Rattle.words.specs.Parts.{LabelInside}
+use Rattle.gaps.specs.Windows.{isToward, neighbourIn, Beside, MayStart}
+use Rattle.gaps.specs.Gapped.{Gap, wrong, parted, partsAt, gapOf, gapToward, gapIn}
 use Rattle.gaps.proofs.PartLaws.{label-inside}
-use Rattle.gaps.specs.declared.Gap.{Gap}
-use Rattle.gaps.specs.declared.Gap.the-variants.{Wrong, Place}
+
+-- ---- a slot of the window
+
+module _ (limits : Limits) (table store : List ℕ) (k : ℕ) (b : Beside limits table store k) (some : 1 ≤ k) where
+  -- it has a row
+  pub beside-row : HasRow table k
+  beside-row =
+      let words = b .sizes .words in
+      let within = b .window .within in
+      record { low = some; high = omega arith }
+
+  -- it has its label in its part of the store
+  pub beside-inside : LabelInside limits store k (rowAt table k .len)
+  beside-inside =
+      label-inside limits store k _ (record {
+        low = some;
+        high = b .window .within;
+        within = b .window .short some;
+        whole = b .sizes .bytes;
+      })
+
+-- the neighbour in a slot that is not 0 is its label
+pub beside-held : (limits : Limits) (table store : List ℕ) (upward : Bool) (k : ℕ) → 1 ≤ k
+    → neighbourIn limits table store upward k ≡ held (entryAt limits table store k .label)
+beside-held limits table store upward zero some = absurd (omega arith)
+beside-held limits table store false (suc k) some = refl
+beside-held limits table store true (suc k) some = refl
 
 -- ---- two labels
 
 -- the gap, by how the other label lies to this one
 abbrev gapBy : (upward : Bool) → Comparison → Gap
-gapBy upward (smaller i) = cond (not upward) (Place i) Wrong
-gapBy upward (same i) = Wrong
-gapBy upward (larger i) = cond upward (Place i) Wrong
-
--- a difference place, where a test passes
-pub place-passed : (fine : Bool) (i : ℕ) → fine ≡ true → Place i ≡ cond fine (Place i) Wrong
-place-passed fine i passed = rw passed
+gapBy upward (smaller i) = cond (not upward) (parted i) wrong
+gapBy upward (same i) = wrong
+gapBy upward (larger i) = cond upward (parted i) wrong
 
 -- of labels that are to ascend it is the place of a comparison that finds them so
-ascending : (k : Comparison) → gapBy false k ≡ cond (isSmaller k) (Place (placeOf k)) Wrong
+ascending : (k : Comparison) → gapBy false k ≡ cond (isSmaller k) (parted (placeOf k)) wrong
 ascending (smaller i) = refl
 ascending (same i) = refl
 ascending (larger i) = refl
@@ -61,89 +81,61 @@ gap-compared false y x = ascending (compareLabels y x)
 gap-compared true y x =
     gap-mirrored (compareLabels y x) ∙ ap (gapBy false) (sym (compare-mirrored y x)) ∙ ascending (compareLabels x y)
 
-module _ (y x : Label) (from : ℕ) (start : MayStart (held y) (held x) from) where
-  -- the comparison may start there
-  pub gap-starts : StartsWithin from x
-  unfolding differencePlace
-  gap-starts = let ends = ends-of-labels y x in record { low = start .low; high = omega arith }
+-- where it is a place, the comparison ends there
+gap-ends : (upward : Bool) (k : Comparison) (i : ℕ) → parted i ≡ gapBy upward k → i ≡ placeOf k
+gap-ends false (smaller j) i e = cc
+gap-ends true (smaller j) i e = clash cc
+gap-ends upward (same j) i e = clash cc
+gap-ends false (larger j) i e = clash cc
+gap-ends true (larger j) i e = cc
 
-  -- it finds what the whole one finds
-  whole : compareFrom from y x ≡ compareLabels y x
-  unfolding differencePlace
-  whole = let ends = ends-of-labels y x in compare-late from y x (start .low) (omega arith)
+-- whether they part at place i in order, by their order there
+parts-by : (upward : Bool) (k : Comparison) (i : ℕ) → isToward upward (orderAt i k) ≡ partsAt i (gapBy upward k)
+parts-by upward (smaller j) i = go upward (eqb i j) refl
+  where
+    go : (upward found : Bool) → found ≡ eqb i j
+        → isToward upward (cond found Smaller Same) ≡ partsAt i (cond (not upward) (parted j) wrong)
+    go false true e = e
+    go false false e = e
+    go true true e = refl
+    go true false e = refl
+parts-by upward (same j) i = refl
+parts-by upward (larger j) i = go upward (eqb i j) refl
+  where
+    go : (upward found : Bool) → found ≡ eqb i j
+        → isToward upward (cond found Larger Same) ≡ partsAt i (cond upward (parted j) wrong)
+    go false true e = refl
+    go false false e = refl
+    go true true e = e
+    go true false e = e
 
-  module _ (upward : Bool) (c : Compared) (so : comparisonOf c ≡ compareFrom from y x) where
-    -- by what it finds
-    found : (k : Comparison) → comparisonOf c ≡ k → gapBy upward k ≡ gapToward upward (held x) (held y)
-    found k e = ap (gapBy upward) (sym e ∙ so ∙ whole) ∙ gap-compared upward y x
+-- ---- a label and the one in a slot
 
-    -- the other one is smaller
-    pub gap-smaller : (r : Gap) → c .order ≡ Smaller → r ≡ cond (not upward) (Place (c .place)) Wrong
-        → r ≡ gapToward upward (held x) (held y)
-    gap-smaller r o e = e ∙ found (comparisonBy Smaller (c .place)) (rw o)
+module _ (limits : Limits) (table store : List ℕ) (upward : Bool) (k : ℕ) (x : Label) (some : 1 ≤ k) where
+  -- the gap, by how the label in the slot lies to this one
+  gap-by : (y : Label) → y ≡ entryAt limits table store k .label
+      → gapBy upward (compareLabels y x) ≡ gapIn limits table store upward k x
+  gap-by y read = rw (beside-held limits table store upward k some ∙ ap held (sym read)) (gap-compared upward y x)
 
-    -- they are alike
-    pub gap-same : c .order ≡ Same → Wrong ≡ gapToward upward (held x) (held y)
-    gap-same o = found (comparisonBy Same (c .place)) (rw o)
+  -- it is no place before 1
+  pub gap-positive : (i : ℕ) → parted i ≡ gapIn limits table store upward k x → 1 ≤ i
+  gap-positive i e =
+      let y = entryAt limits table store k .label in
+      let at = gap-ends upward (compareLabels y x) i (e ∙ sym (gap-by y refl)) in
+      omega (arith, at, ends-of-labels y x .from)
 
-    -- the other one is larger
-    pub gap-larger : (r : Gap) → c .order ≡ Larger → r ≡ cond upward (Place (c .place)) Wrong
-        → r ≡ gapToward upward (held x) (held y)
-    gap-larger r o e = e ∙ found (comparisonBy Larger (c .place)) (rw o)
+  module _ (y : Label) (read : y ≡ entryAt limits table store k .label) (i : ℕ) (r : Bool) (o : Order)
+      (test : r ≡ isToward upward o) where
+    -- whether they part at a place, by their order there
+    pub parts-whole : o ≡ orderAt i (compareLabels y x) → r ≡ partsAt i (gapIn limits table store upward k x)
+    parts-whole e =
+        test ∙ ap (isToward upward) e ∙ parts-by upward (compareLabels y x) i ∙ ap (partsAt i) (gap-by y read)
 
--- ---- a slot of the window
-
-module _ (limits : Limits) (table store : List ℕ) (k : ℕ) where
-  -- it has a row
-  pub beside-row : Beside limits table store k → (k ≡ 0 → ⊥) → HasRow table k
-  beside-row b some =
-      let words = b .sizes .words in
-      let within = b .window .within in
-      record { low = omega arith; high = omega arith }
-
-  -- it has its label in its part of the store
-  pub beside-inside : Beside limits table store k → (k ≡ 0 → ⊥) → LabelInside limits store k (rowAt table k .len)
-  beside-inside b some =
-      let low : 1 ≤ k = omega arith in
-      label-inside limits store k _ (record {
-        low = low;
-        high = b .window .within;
-        within = b .window .short low;
-        whole = b .sizes .bytes;
-      })
-
--- the label that is shown is the node's
-pub shown-label : (limits : Limits) (table : List ℕ) (store r : RefT (List ℕ)) (k : ℕ)
-    → Shows limits store k (rowAt table k .len) r → r .now ≡ entryAt limits table (store .now) k .label
-shown-label limits table store r k shows = shows .bytes
-
--- the neighbour in a slot that is not 0 is its label
-pub beside-held : (limits : Limits) (table store : List ℕ) (upward : Bool) (k : ℕ) → (k ≡ 0 → ⊥)
-    → neighbourIn limits table store upward k ≡ held (entryAt limits table store k .label)
-beside-held limits table store upward zero n = absurd (n refl)
-beside-held limits table store false (suc k) n = refl
-beside-held limits table store true (suc k) n = refl
-
-module _ (limits : Limits) (table store : List ℕ) (upward : Bool) (k : ℕ) (x : Label) where
-  -- no slot
-  pub beside-none : k ≡ 0 → Place 0 ≡ gapIn limits table store upward k x
-  unfolding gapOf
-  beside-none e = rw e (missing upward)
-    where
-      missing : (upward : Bool) → Place 0 ≡ gapIn limits table store upward 0 x
-      missing false = refl
-      missing true = refl
-
-  module _ (y : Label) (n : k ≡ 0 → ⊥) (read : y ≡ entryAt limits table store k .label) where
-    -- the neighbour is that label
-    same-label : neighbourIn limits table store upward k ≡ held y
-    same-label = beside-held limits table store upward k n ∙ ap held (sym read)
-
-    -- it is compared from the same place on
-    pub beside-starts : (from : ℕ) → MayStart (neighbourIn limits table store upward k) (held x) from
-        → MayStart (held y) (held x) from
-    beside-starts from start = rw same-label at start
-
-    -- and has the same gap
-    pub beside-some : (r : Gap) → r ≡ gapToward upward (held x) (held y) → r ≡ gapIn limits table store upward k x
-    beside-some r e = rw same-label e
+    -- where they agree before it, by a comparison from there on
+    pub parts-late : MayStart (neighbourIn limits table store upward k) (held x) i
+        → o ≡ orderAt i (compareFrom i y x) → r ≡ partsAt i (gapIn limits table store upward k x)
+    unfolding differencePlace
+    parts-late start e =
+        let agree = rw (beside-held limits table store upward k some ∙ ap held (sym read)) at start in
+        let ends = ends-of-labels y x in
+        parts-whole (e ∙ ap (orderAt i) (compare-late i y x (agree .low) (omega (arith, agree .high, ends .from))))

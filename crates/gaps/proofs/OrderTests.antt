@@ -1,14 +1,11 @@
 -- The test of the order of two neighbours.
--- `before-of-test`, `test-of-before`, `test-of-after`: it is true exactly for what lies before.
-use mathlib.Core.Path.{_≡_, refl, ap}
-use mathlib.Core.Bool.{true, false}
-use Prim.Native.Nat.{ℕ}
+-- `before-of-test`, `test-of-before`: it is true exactly for what lies before.
+use mathlib.Core.Path.{_≡_, refl}
+use mathlib.Core.Bool.{true}
 use Rattle.labels.specs.Neighbours.{Neighbour, none-below, held, none-above}
-use Rattle.labels.proofs.Order.{Below, below-none-below, none-above-below}
+use Rattle.labels.proofs.Order.{below-none-below, none-above-below}
 use Rattle.labels.proofs.Order.{none-below-held, held-none-above, none-below-none-above}
-use Rattle.labels.proofs.Results.{compare-larger}
 use Rattle.labels.proofs.Difference.{Before, below-is-before}
-use Rattle.trees.specs.Valid.{isSmaller}
 use Rattle.trees.proofs.Linked.{before-of-smaller, smaller-of-before}
 use Rattle.trees.proofs.Passing.{false-not-true}
 use Rattle.gaps.specs.Windows.{isBefore}
@@ -32,11 +29,3 @@ test-of-before (held x) none-below before = absurd (below-none-below before)
 test-of-before (held x) (held y) before = smaller-of-before before
 test-of-before (held x) none-above before = refl
 test-of-before none-above b before = absurd (none-above-below before)
-
--- A neighbour that lies after another fails it.
-pub test-of-after : (a b : Neighbour) {m : ℕ} → Below b a m → isBefore a b ≡ false
-test-of-after none-below b after = absurd (below-none-below after)
-test-of-after (held x) none-below after = refl
-test-of-after (held x) (held y) after = ap isSmaller (compare-larger after)
-test-of-after (held x) none-above after = absurd (none-above-below after)
-test-of-after none-above b after = refl

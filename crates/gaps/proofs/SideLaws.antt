@@ -2,10 +2,10 @@
 -- `Ascend`: the first lies before the second towards the side, and parts from it at a place.
 -- `gap-ascends`: neighbours whose gap is a place ascend, and part there.
 -- A label x lies in a window of the neighbours near and far, which part at place m, and was compared with the near one.
--- `early-wrong`: where these part before m, far lies on the wrong side.
--- `late-right`: where they part after m, x and far part at m.
+-- `late-right`: where these part after m, x and far part at m.
 -- `open-starts`: where they part at m, x and far may be compared from m on.
-use Prim.Native.Nat.{ℕ, suc, _≤_, _<_, max}
+-- `outer-place`: in order, m is the smaller of the places where x parts from both.
+use Prim.Native.Nat.{ℕ, suc, _≤_, _<_, min, max}
 use mathlib.Core.Path.{_≡_, refl, sym, _∙_}
 use mathlib.Core.Bool.{Bool, true, false, not, cond}
 use native.Mathlib.Omega.{arith}
@@ -14,14 +14,13 @@ use Rattle.labels.specs.Labels.{Label, Comparison, placeOf, differencePlace}
 use Rattle.labels.specs.Labels.{Finds, is-smaller, is-same, is-larger}
 use Rattle.labels.specs.Neighbours.{Neighbour, none-below, held, none-above, difference}
 use Rattle.labels.proofs.Numbers.{Ltb, lt-yes, lt-no, ltb-view}
-use Rattle.labels.proofs.Order.{numberWith, Below, below-of-smaller}
+use Rattle.labels.proofs.Order.{numberWith, Below, below-trans, place-unique, below-of-smaller}
 use Rattle.labels.proofs.Compare.{compares-by-places}
 use Rattle.labels.proofs.Difference.{below-is-before, difference-is, difference-symmetric, difference-first}
 use Rattle.trees.proofs.Passing.{false-not-true}
 use Rattle.gaps.specs.Windows.{isBefore, MayStart}
-use Rattle.gaps.specs.Gapped.{gapOf, gapToward}
-use Rattle.gaps.specs.declared.Gap.the-variants.{Wrong, Place}
-use Rattle.gaps.proofs.OrderTests.{before-of-test, test-of-before, test-of-after}
+use Rattle.gaps.specs.Gapped.{wrong, parted, gapOf, gapToward}
+use Rattle.gaps.proofs.OrderTests.{before-of-test, test-of-before}
 
 -- ---- the order towards a side
 
@@ -58,35 +57,25 @@ ascend-alike true a b c i ascend alike =
 -- ---- gaps
 
 -- the gap of a neighbour with one that it lies before
-below-gap : (a b : Neighbour) (i : ℕ) → Below a b i → Place i ≡ gapOf a b
+below-gap : (a b : Neighbour) (i : ℕ) → Below a b i → parted i ≡ gapOf a b
 unfolding gapOf
 below-gap a b i below = rw (test-of-before a b (below-is-before below), difference-is a b below)
 
--- and with one that it lies after
-above-gap : (a b : Neighbour) (i : ℕ) → Below b a i → Wrong ≡ gapOf a b
-unfolding gapOf
-above-gap a b i above = rw (test-of-after a b above)
-
 -- neighbours whose gap is a place
-gap-below : (a b : Neighbour) (i : ℕ) → Place i ≡ gapOf a b → Below a b i
+gap-below : (a b : Neighbour) (i : ℕ) → parted i ≡ gapOf a b → Below a b i
 unfolding gapOf
 gap-below a b i e = go (isBefore a b) refl e
   where
-    go : (t : Bool) → isBefore a b ≡ t → Place i ≡ cond t (Place (difference a b)) Wrong → Below a b i
+    go : (t : Bool) → isBefore a b ≡ t → parted i ≡ cond t (parted (difference a b)) wrong → Below a b i
     go true passed e = let at : i ≡ difference a b = cc in rw at (before-of-test a b passed)
     go false failed e = false-not-true cc
 
--- the same towards a side: the gap of a neighbour with one that it lies after, with one that it lies before, and
--- neighbours whose gap is a place
-ascend-gap : (upward : Bool) (a b : Neighbour) (i : ℕ) → Ascend upward a b i → Place i ≡ gapToward (not upward) b a
+-- the same towards a side
+ascend-gap : (upward : Bool) (a b : Neighbour) (i : ℕ) → Ascend upward a b i → parted i ≡ gapToward (not upward) b a
 ascend-gap false a b = below-gap b a
 ascend-gap true a b = below-gap a b
 
-descend-gap : (upward : Bool) (a b : Neighbour) (i : ℕ) → Ascend upward a b i → Wrong ≡ gapToward (not upward) a b
-descend-gap false a b = above-gap a b
-descend-gap true a b = above-gap b a
-
-pub gap-ascends : (upward : Bool) (a b : Neighbour) (i : ℕ) → Place i ≡ gapToward upward a b → Ascend upward a b i
+pub gap-ascends : (upward : Bool) (a b : Neighbour) (i : ℕ) → parted i ≡ gapToward upward a b → Ascend upward a b i
 gap-ascends false a b = gap-below b a
 gap-ascends true a b = gap-below a b
 
@@ -112,14 +101,8 @@ agreed-place x y m agree short = go (compares-by-places x y)
 
 module _ (upward : Bool) (far near : Neighbour) (x : Label) (m i : ℕ) (window : Ascend upward far near m)
     (first : Ascend upward (held x) near i) where
-  -- x and near part before the window does: far lies on the wrong side
-  pub early-wrong : i < m → Wrong ≡ gapToward (not upward) (held x) far
-  early-wrong early =
-      descend-gap upward (held x) far i
-      (ascend-alike upward (held x) near far i first (λ j most. agreed upward far near m window j (omega arith)))
-
-  -- they part after it: x and far part where the window does
-  pub late-right : m < i → Place m ≡ gapToward (not upward) (held x) far
+  -- x and near part after the window does: x and far part where it does
+  pub late-right : m < i → parted m ≡ gapToward (not upward) (held x) far
   late-right late =
       ascend-gap upward far (held x) m
       (ascend-alike upward far near (held x) m window (λ j most. agreed upward (held x) near i first j (omega arith)))
@@ -137,3 +120,9 @@ open-starts upward (held y) near x m window first =
     record { low = omega arith; high = omega arith }
 open-starts upward none-above near x m window first =
     record { low = omega arith; high = omega (arith, ascend-place upward none-above near m window) }
+
+-- between neighbours p and s that part at place m, x parts from one of them there, and from the other no earlier
+pub outer-place : (p s : Neighbour) (x : Label) (m i k : ℕ) → Below p s m → parted i ≡ gapOf p (held x)
+    → parted k ≡ gapOf (held x) s → m ≡ min i k
+outer-place p s x m i k window low high =
+    place-unique window (below-trans (gap-below p (held x) i low) (gap-below (held x) s k high))

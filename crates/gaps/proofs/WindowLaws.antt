@@ -1,134 +1,175 @@
--- Both gaps of a label in a window, from the one with the neighbour on a side.
--- `from-broken`, `from-early`, `from-late`: they are settled by the first gap and the place of the window.
--- `other-beside`, `other-starts`: the other neighbour may be read, and compared from that place on.
--- `from-open`, `from-both`: they are settled by both gaps.
-use Prim.Native.Nat.{ℕ, _≤_, _<_, max}
+-- The place and side of a label in a window, by the neighbour that the side names.
+-- `near-beside`, `above-beside`: the neighbours may be read.
+-- `not-there`: the label does not part from it at the place.
+-- `with-upper`, `with-lower`: it does, and it is the one above, or below.
+-- `may-tie`: where it is the one below, the one above may be compared where the window parts.
+use Prim.Native.Nat.{ℕ, zero, suc, _≤_, max}
 use mathlib.Core.Path.{_≡_, refl, sym, _∙_}
 use mathlib.Core.List.{List}
-use mathlib.Core.Bool.{Bool, true, false, not}
+use mathlib.Core.Bool.{Bool, true, false, _&&_, _||_}
 use native.Mathlib.Omega.{arith}
+use lib.Dec.{eqb}
+use borrow.Author.Tests.{lt-leb, le-leb, eqb-true, eqb-false}
 use Rattle.types.specs.declared.Limits.{Limits}
 use Rattle.labels.specs.Labels.{Label}
-use Rattle.labels.specs.Neighbours.{Neighbour, held}
-use Rattle.gaps.specs.Windows.{toward, neighbourIn, Beside, MayStart, Between}
-use Rattle.gaps.specs.Gapped.{gapIn, gapsOf, gapsIn, bothToward}
-use Rattle.gaps.specs.declared.Gap.{Gap}
-use Rattle.gaps.specs.declared.Gap.the-variants.{Wrong, Place}
+use Rattle.labels.specs.Neighbours.{Neighbour, none-below, held, none-above, difference}
+use Rattle.labels.proofs.Order.{Below}
+use Rattle.labels.proofs.Numbers.{Ltb, lt-yes, lt-no, ltb-view, Eqb, eq-yes, eq-no, eqb-view}
+use Rattle.gaps.specs.Windows.{toward, belowIn, aboveIn, Beside, MayStart, MayTie, Between}
+use Rattle.gaps.specs.Gapped.{Gap, parted, partsAt, gapIn, gapsIn, bothWhen, fieldsFine, byUpper, byLower}
 use Rattle.gaps.specs.declared.Gaps.{Gaps}
-use Rattle.gaps.specs.declared.Gaps.the-variants.{Broken}
+use Rattle.gaps.specs.declared.Gaps.the-variants.{Broken, Both}
 use Rattle.gaps.proofs.OrderTests.{before-of-test}
-use Rattle.gaps.proofs.SideLaws.{Ascend, gap-ascends, early-wrong, late-right, open-starts}
+use Rattle.gaps.proofs.GapLaws.{gap-positive}
+use Rattle.gaps.proofs.SideLaws.{gap-ascends, late-right, open-starts, outer-place}
+use Rattle.gaps.proofs.FieldLaws.{Named, names-below, names-above, named-by, side-below, side-above}
+use Rattle.gaps.proofs.FieldLaws.{broken, right, parts-there, parts-elsewhere, parted-once}
 
--- ---- two gaps
-
--- the gaps of a label with the neighbour on a side and with the other one, in order
-abbrev gapsToward : (upward : Bool) → (near far : Gap) → Gaps
-gapsToward false near far = gapsOf near far
-gapsToward true near far = gapsOf far near
-
--- the one on the side is wrong
-near-wrong : (upward : Bool) (far : Gap) → Broken ≡ gapsToward upward Wrong far
-near-wrong false far = refl
-near-wrong true Wrong = refl
-near-wrong true (Place k) = refl
-
--- the other one is wrong
-far-wrong : (upward : Bool) (i : ℕ) → Broken ≡ gapsToward upward (Place i) Wrong
-far-wrong false i = refl
-far-wrong true i = refl
-
--- both are right
-both-right : (upward : Bool) (i k : ℕ) → bothToward upward i k ≡ gapsToward upward (Place i) (Place k)
-both-right false i k = refl
-both-right true i k = refl
-
--- ---- the neighbours in the slots of a window
+-- a window that parts at a place has a neighbour above
+parts-some : (limits : Limits) (table store : List ℕ) (a : Neighbour) (k : ℕ)
+    → 1 ≤ difference a (aboveIn limits table store k) → 1 ≤ k
+parts-some limits table store none-below zero some = some
+parts-some limits table store (held y) zero some = some
+parts-some limits table store none-above zero some = some
+parts-some limits table store a (suc k) some = omega arith
 
 module _ (limits : Limits) (table store : List ℕ) (below above : ℕ) where
-  -- the one on a side
-  abbrev beside : (upward : Bool) → Neighbour
-  beside upward = neighbourIn limits table store upward (toward upward below above)
+  -- both neighbours
+  abbrev smaller : Neighbour
+  smaller = belowIn limits table store below
 
-  -- its gap with a label
-  abbrev gapBeside : (upward : Bool) → Label → Gap
-  gapBeside upward x = gapIn limits table store upward (toward upward below above) x
-
-  -- both gaps of a label are that on a side and the other one
-  gaps-toward : (upward : Bool) (x : Label)
-      → gapsToward upward (gapBeside upward x) (gapBeside (not upward) x) ≡ gapsIn limits table store below x above
-  gaps-toward false x = refl
-  gaps-toward true x = refl
+  abbrev larger : Neighbour
+  larger = aboveIn limits table store above
 
   module _ (apart : ℕ) (fits : Between limits table store below above apart) where
-    -- they are in order, and part at the place of the window
-    window-ascends : (upward : Bool) → Ascend upward (beside (not upward)) (beside upward) apart
-    window-ascends false = rw (fits .parts) (before-of-test _ _ (fits .order))
-    window-ascends true = rw (fits .parts) (before-of-test _ _ (fits .order))
-
     -- each may be read
-    window-beside : (upward : Bool) → Beside limits table store (toward upward below above)
-    window-beside false = record { sizes = fits .sizes; window = fits .lower }
-    window-beside true = record { sizes = fits .sizes; window = fits .upper }
+    pub near-beside : (near : ℕ) (upward : Bool) → near ≡ toward upward below above → Beside limits table store near
+    near-beside near false e = rw e (record { sizes = fits .sizes; window = fits .lower })
+    near-beside near true e = rw e (record { sizes = fits .sizes; window = fits .upper })
 
--- ---- from the gap on a side
+    pub above-beside : Beside limits table store above
+    above-beside = record { sizes = fits .sizes; window = fits .upper }
 
-module _ (limits : Limits) (table store : List ℕ) (below above : ℕ) (upward : Bool) (x : Label) (first : Gap)
-    (e : first ≡ gapBeside limits table store below above upward x) where
-  -- the neighbour on the side, and the other one
-  abbrev near : Neighbour
-  near = beside limits table store below above upward
+    -- they ascend, and part at the window's place
+    window : Below smaller larger apart
+    window = rw (fits .parts) (before-of-test smaller larger (fits .order))
 
-  abbrev far : Neighbour
-  far = beside limits table store below above (not upward)
+  module _ (x : Label) (at : ℕ) where
+    -- the gaps of a label with them
+    abbrev low : Gap
+    low = gapIn limits table store false below x
 
-  -- both gaps, by the first and a second
-  gaps-by : (second : Gap) → second ≡ gapBeside limits table store below above (not upward) x
-      → gapsToward upward first second ≡ gapsIn limits table store below x above
-  gaps-by second f = rw (e, f) (gaps-toward limits table store below above upward x)
+    abbrev high : Gap
+    high = gapIn limits table store true above x
 
-  -- the label is on the wrong side
-  pub from-broken : first ≡ Wrong → Broken ≡ gapsIn limits table store below x above
-  from-broken is = near-wrong upward _ ∙ rw is at (gaps-by _ refl)
+    -- what is to be found
+    abbrev fields : (side : ℕ) → Gaps
+    fields side = fieldsFine at side (gapsIn limits table store below x above)
 
-  module _ (i : ℕ) (is : first ≡ Place i) where
+    -- ---- the label does not part from the named neighbour at the place, or lies wrongly
+
+    not-upper : (t : Bool) → 1 ≤ above → t ≡ partsAt at high → t ≡ false → Broken ≡ fields 1
+    not-upper t some test is =
+        broken at 1 low high (λ p q e f g h. parts-elsewhere at q high t test is f (omega (
+          arith,
+          g,
+          side-above p q h,
+          gap-positive limits table store true above x some q f,
+        )))
+
+    not-lower : (t : Bool) → 1 ≤ below → t ≡ partsAt at low → t ≡ false → Broken ≡ fields 0
+    not-lower t some test is =
+        broken at 0 low high (λ p q e f g h. parts-elsewhere at p low t test is e (omega (
+          arith,
+          g,
+          side-below p q h,
+          gap-positive limits table store false below x some p e,
+        )))
+
+    pub not-there : (side : ℕ) (upward : Bool) → side ≤ 1 → upward ≡ eqb side 1 → (near : ℕ) (t : Bool)
+        → near ≡ toward upward below above → (near ≡ 0 → ⊥)
+        → t ≡ partsAt at (gapIn limits table store upward near x) → t ≡ false → Broken ≡ fields side
+    not-there side upward known named near t e some test is =
+        go (named-by side upward known named) (λ none. some (e ∙ none)) (rw e at test)
+      where
+        go : {side : ℕ} {u : Bool} → Named side u → (toward u below above ≡ 0 → ⊥)
+            → t ≡ partsAt at (gapIn limits table store u (toward u below above) x) → Broken ≡ fields side
+        go names-above some test = not-upper t (omega arith) test is
+        go names-below some test = not-lower t (omega arith) test is
+
+    -- ---- it parts from the named neighbour there
+
     module _ (apart : ℕ) (fits : Between limits table store below above apart) where
-      -- the neighbours part at the place of the window, and the label parts from the near one
-      window : Ascend upward far near apart
-      window = window-ascends limits table store below above apart fits upward
+      by-upper : parted at ≡ high → byUpper at apart ≡ fields 1
+      by-upper near = go (ltb-view apart at)
+        where
+          go : {late : Bool} → Ltb apart at late → bothWhen late apart at ≡ fields 1
+          go (lt-yes late) =
+              right at 1 apart at low high
+              (late-right true smaller larger x apart at (window apart fits) (gap-ascends true (held x) larger at near)
+              late) near (omega arith) (rw (lt-leb at apart late))
+          go (lt-no early) =
+              broken at 1 low high (λ p q e f g h. omega (
+                arith,
+                side-above p q h,
+                parted-once at q high near f,
+                outer-place smaller larger x apart p q (window apart fits) e f,
+              ))
 
-      label-ascends : Ascend upward (held x) near i
-      label-ascends = gap-ascends upward (held x) near i (sym is ∙ e)
+      by-lower : (at ≡ 0 → ⊥) → parted at ≡ low → byLower at apart high ≡ fields 0
+      by-lower some near = go (ltb-view apart at) (eqb-view at apart) (partsAt apart high) refl
+        where
+          fine : apart ≤ at → parted apart ≡ high → Both at apart ≡ fields 0
+          fine most far = right at 0 at apart low high near far (omega arith) (rw (le-leb apart at most))
 
-      -- it parts before the window does
-      pub from-early : i < apart → Broken ≡ gapsIn limits table store below x above
-      from-early early =
-          far-wrong upward i
-          ∙ rw is at (gaps-by Wrong (early-wrong upward far near x apart i window label-ascends early))
+          go : {late tie : Bool} → Ltb apart at late → Eqb at apart tie → (there : Bool) → partsAt apart high ≡ there
+              → bothWhen (late || (tie && there)) at apart ≡ fields 0
+          go (lt-yes late) tie there k =
+              fine (omega arith) (late-right false larger smaller x apart at (window apart fits)
+              (gap-ascends false (held x) smaller at near) late)
+          go (lt-no early) (eq-yes tie) true k = fine (omega arith) (parts-there apart high true (sym k) refl)
+          go (lt-no early) (eq-yes tie) false k =
+              broken at 0 low high (λ p q e f g h. parts-elsewhere apart q high false (sym k) refl f (omega (
+                arith,
+                outer-place smaller larger x apart p q (window apart fits) e f,
+                side-below p q h,
+              )))
+          go (lt-no early) (eq-no other) there k =
+              broken at 0 low high (λ p q e f g h. omega (
+                arith,
+                outer-place smaller larger x apart p q (window apart fits) e f,
+                parted-once at p low near e,
+              ))
 
-      -- it parts after it
-      pub from-late : (r : Gaps) → apart < i → r ≡ bothToward upward i apart
-          → r ≡ gapsIn limits table store below x above
-      from-late r late found =
-          found ∙ both-right upward i apart
-          ∙ rw is at (gaps-by (Place apart) (late-right upward far near x apart i window label-ascends late))
+      -- from the tests that led there
+      module _ (upward : Bool) (near : ℕ) (t : Bool) (e : near ≡ toward upward below above)
+          (test : t ≡ partsAt at (gapIn limits table store upward near x)) (is : t ≡ true) where
+        pub with-upper : (side : ℕ) (r : Gaps) → side ≤ 1 → upward ≡ eqb side 1 → upward ≡ true → r ≡ byUpper at apart
+            → r ≡ fields side
+        with-upper side r known named up found =
+            let one = eqb-true side 1 (sym named ∙ up) in
+            rw one (found ∙ by-upper (parts-there at high t (rw (e, up) at test) is))
 
-      -- it parts where the window does, and the other neighbour is compared
-      pub other-beside : (k : ℕ) → k ≡ toward (not upward) below above → Beside limits table store k
-      other-beside k other = rw other (window-beside limits table store below above apart fits (not upward))
+        near-low : upward ≡ false → parted at ≡ low
+        near-low down = parts-there at low t (rw (e, down) at test) is
 
-      pub other-starts : (k from : ℕ) → k ≡ toward (not upward) below above → apart ≤ i → i ≤ apart
-          → from ≡ max 1 apart → MayStart (neighbourIn limits table store (not upward) k) (held x) from
-      other-starts k from other least most start =
-          let at-window : i ≡ apart = omega arith in
-          rw (other, start) (open-starts upward far near x apart window (rw at-window at label-ascends))
+        pub with-lower : (side : ℕ) (r : Gaps) → side ≤ 1 → upward ≡ eqb side 1 → upward ≡ false → (at ≡ 0 → ⊥)
+            → r ≡ byLower at apart high → r ≡ fields side
+        with-lower side r known named down some found =
+            let other = eqb-false side 1 (sym named ∙ down) in
+            let zero : side ≡ 0 = omega arith in
+            rw zero (found ∙ by-lower some (near-low down))
 
-    -- by the gap with the other one
-    module _ (k : ℕ) (second : Gap) (other : k ≡ toward (not upward) below above)
-        (f : second ≡ gapIn limits table store (not upward) k x) where
-      pub from-open : second ≡ Wrong → Broken ≡ gapsIn limits table store below x above
-      from-open wrong = far-wrong upward i ∙ rw (is, wrong) at (gaps-by second (rw other at f))
+        -- the neighbour above may be compared where the window parts
+        pub may-tie : upward ≡ false → (at ≡ 0 → ⊥) → MayTie limits table store above x at apart
+        may-tie down some = record { some = lies-above; start = starts }
+          where
+            lies-above : at ≡ apart → 1 ≤ above
+            lies-above tie = parts-some limits table store smaller above (omega (arith, fits .parts, tie))
 
-      pub from-both : (q : ℕ) (r : Gaps) → second ≡ Place q → r ≡ bothToward upward i q
-          → r ≡ gapsIn limits table store below x above
-      from-both q r right found =
-          found ∙ both-right upward i q ∙ rw (is, right) at (gaps-by second (rw other at f))
+            starts : at ≡ apart → MayStart larger (held x) apart
+            starts tie =
+                let whole : max 1 apart ≡ apart = omega arith in
+                rw whole at
+                (open-starts false larger smaller x apart (window apart fits)
+                (gap-ascends false (held x) smaller apart (rw tie at (near-low down))))

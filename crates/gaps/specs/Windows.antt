@@ -2,14 +2,16 @@
 -- What the tests in a window take for granted: each caller has tested it before.
 use mathlib.Core.List.{List}
 use mathlib.Core.Path.{_≡_}
-use mathlib.Core.Bool.{Bool, true, false, cond}
+use mathlib.Core.Bool.{Bool, true, false, not, cond}
 use Prim.Native.Nat.{ℕ, zero, suc, _≤_, max}
 use lib.ListN.{length}
 use Rattle.types.specs.declared.Limits.{Limits}
 use Rattle.types.specs.Sizes.{storeLength}
-use Rattle.labels.specs.Labels.{compareLabels}
+use Rattle.labels.specs.Labels.{Label, compareLabels}
 use Rattle.labels.specs.Neighbours.{Neighbour, none-below, held, none-above, difference}
 use Rattle.trees.specs.Valid.{isSmaller}
+use Rattle.orders.specs.declared.Order.{Order}
+use Rattle.orders.specs.declared.Order.the-variants.{Smaller, Same, Larger}
 use Rattle.tables.specs.Words.{rowAt, entryAt}
 use Rattle.words.specs.Limits.{SizesFit}
 
@@ -35,6 +37,12 @@ isBefore none-above b = false
 -- of two numbers the one for a side: that below, or upward that above
 abbrev pub toward : (upward : Bool) → (below above : ℕ) → ℕ
 toward upward below above = cond upward above below
+
+-- whether a neighbour's order is that of one below, or upward that of one above
+abbrev pub isToward : (upward : Bool) → Order → Bool
+isToward upward Smaller = not upward
+isToward upward Same = false
+isToward upward Larger = upward
 
 -- the neighbour of a label in a slot, below it or upward of it
 abbrev pub neighbourIn : Limits → (table store : List ℕ) → (upward : Bool) → ℕ → Neighbour
@@ -62,6 +70,11 @@ pub record Beside (limits : Limits) (table store : List ℕ) (k : ℕ) : Type 0 
 pub record MayStart (a b : Neighbour) (from : ℕ) : Type 0 where
   pub low : 1 ≤ from
   pub high : from ≤ max 1 (difference a b)
+
+-- where two places are one, there is a label in the slot, upward of another, and both agree before it
+pub record MayTie (limits : Limits) (table store : List ℕ) (k : ℕ) (x : Label) (lower apart : ℕ) : Type 0 where
+  pub some : lower ≡ apart → 1 ≤ k
+  pub start : lower ≡ apart → MayStart (neighbourIn limits table store true k) (held x) apart
 
 -- the slots of a window, to be read, whose neighbours ascend and part at a place
 pub record Between (limits : Limits) (table store : List ℕ) (below above apart : ℕ) : Type 0 where

@@ -1,30 +1,16 @@
-// How a label lies in a window, between the labels in two slots: whether all ascend, and at which places they part.
+// How a label lies in a window, between the labels in two slots: whether all ascend, and part by its place and side.
 use orders::Order;
 use types::Limits;
 ghost use mathlib.Core.Path.{_≡_};
-ghost use mathlib.Core.Bool.{cond};
-ghost use Prim.Native.Nat.{max};
-ghost use Rattle.labels.specs.Neighbours.{held};
-ghost use Rattle.gaps.specs.Windows.{toward, neighbourIn, Beside, MayStart, Between};
-ghost use Rattle.gaps.specs.Gapped.{gapToward, gapIn, bothToward, gapsIn};
+ghost use mathlib.Core.Bool.{true};
+ghost use Prim.Native.Nat.{_≤_};
+ghost use Rattle.gaps.specs.Windows.{toward, isToward, Beside, MayTie, Between};
+ghost use Rattle.gaps.specs.Gapped.{gapIn, partsAt, gapsIn, fieldsFine, alone, byUpper, byLower};
 
-// How two labels lie that are to ascend: wrongly, or at their difference place, 0 where one of them is missing.
-pub enum Gap {
-    Wrong,
-    Place(usize),
-}
-
-// How a label lies between its neighbours: not in order, or its difference places with both.
+// How a label lies between its neighbours: not as it should, or its difference places with both.
 pub enum Gaps {
     Broken,
     Both { lower: usize, upper: usize },
-}
-
-// The larger of two numbers.
-pub fn larger(m: usize, n: usize) -> usize
-    ensures { λ r. ⌜ r ≡ max m n ⌝ }
-{
-    if m < n { n } else { m }
 }
 
 // Of two numbers the one for a side: that below, or upward that above.
@@ -34,113 +20,138 @@ fn toward(upward: bool, below: usize, above: usize) -> usize
     if upward { above } else { below }
 }
 
-// A difference place, where a test passes.
-fn place_when(fine: bool, place: usize) -> Gap
-    ensures { λ r. ⌜ r ≡ cond fine (Gap.Place place) Gap.Wrong ⌝ }
+// Whether a neighbour's order is that of one below, or upward that of one above.
+fn is_toward(upward: bool, order: Order) -> bool
+    ensures { λ r. ⌜ r ≡ isToward upward order ⌝ }
 {
-    if fine { Gap::Place(place) } else { Gap::Wrong }
-}
-
-// The difference place of a label with another, which is to lie below it, or upward of it, and agrees with it before
-// some place.
-fn gap_toward(other: &[u8], label: &[u8], upward: bool, from: usize) -> Gap
-    requires { ⌜ MayStart (held (now other)) (held (now label)) from ⌝ }
-    ensures { λ r. ⌜ r ≡ gapToward upward (held (now (label .entry))) (held (now (other .entry))) ⌝ }
-{
-    let compared = eights::compare(other, label, from);
-    let order = compared.order;
     match order {
-        Order::Smaller => place_when(!upward, compared.place),
-        Order::Same => Gap::Wrong,
-        Order::Larger => place_when(upward, compared.place),
+        Order::Smaller => !upward,
+        Order::Same => false,
+        Order::Larger => upward,
     }
 }
 
-// The difference place of a label with its neighbour in a slot, below it or upward of it, 0 where there is none.
-fn gap_beside(
+// Whether a label and its neighbour in a slot, below it or upward of it, ascend and part at this place.
+fn parts_at(
     limits: Limits,
     table: &[u16],
     store: &[u8],
     label: &[u8],
     upward: bool,
     slot: usize,
-    from: usize,
-) -> Gap
+    place: usize,
+) -> bool
     requires { ⌜ Beside limits (now table) (now store) slot ⌝ }
-    requires { ⌜ MayStart (neighbourIn limits (now table) (now store) upward slot) (held (now label)) from ⌝ }
-    ensures { λ r. ⌜ r ≡ gapIn limits (now (table .entry)) (now (store .entry)) upward slot (now (label .entry)) ⌝ }
+    requires { ⌜ 1 ≤ slot ⌝ }
+    requires { ⌜ 1 ≤ place ⌝ }
+    ensures { λ r. ⌜ r
+        ≡ partsAt place (gapIn limits (now (table .entry)) (now (store .entry)) upward slot (now (label .entry))) ⌝ }
 {
-    if slot == 0 {
-        return Gap::Place(0);
-    }
     let other = words::parts::held_label(limits, table, store, slot);
-    gap_toward(other, label, upward, from)
+    let order = eights::order_at(other, label, place);
+    is_toward(upward, order)
 }
 
-// Two difference places, with the neighbour on a side and with the other one, in order.
-fn both(upward: bool, near: usize, far: usize) -> Gaps
-    ensures { λ r. ⌜ r ≡ bothToward upward near far ⌝ }
+// The difference places of a label with no neighbour on the side that is named: the root's, alone in its window.
+fn alone(place: usize, upward: bool, above: usize) -> Gaps
+    ensures { λ r. ⌜ r ≡ alone place upward above ⌝ }
 {
+    if upward {
+        return Gaps::Broken;
+    }
+    if above != 0 {
+        return Gaps::Broken;
+    }
+    if place != 1 {
+        return Gaps::Broken;
+    }
+    Gaps::Both { lower: 0, upper: 0 }
+}
+
+// Both difference places, by the one with the neighbour above, in a window that parts at a place.
+fn by_upper(upper: usize, apart: usize) -> Gaps
+    ensures { λ r. ⌜ r ≡ byUpper upper apart ⌝ }
+{
+    if upper <= apart {
+        return Gaps::Broken;
+    }
     Gaps::Both {
-        lower: toward(upward, near, far),
-        upper: toward(upward, far, near),
+        lower: apart,
+        upper,
     }
 }
 
-// Both difference places, by the one with the neighbour on a side. The other neighbour is compared only where the first
-// is that of the window, and from there on.
-fn gaps_from(
+// The same, by the one with the neighbour below. The neighbour above is read only where both are the window's, and at
+// that place alone.
+fn by_lower(
     limits: Limits,
     table: &[u16],
     store: &[u8],
     label: &[u8],
-    upward: bool,
-    first: Gap,
-    below: usize,
+    lower: usize,
     above: usize,
     apart: usize,
 ) -> Gaps
-    requires { ⌜ Between limits (now table) (now store) below above apart ⌝ }
-    requires { ⌜ first ≡ gapIn limits (now table) (now store) upward (toward upward below above) (now label) ⌝ }
-    ensures { λ r. ⌜ r ≡ gapsIn limits (now (table .entry)) (now (store .entry)) below (now (label .entry)) above ⌝ }
+    requires { ⌜ Beside limits (now table) (now store) above ⌝ }
+    requires { ⌜ MayTie limits (now table) (now store) above (now label) lower apart ⌝ }
+    ensures { λ r. ⌜ r
+        ≡ byLower lower apart
+        (gapIn limits (now (table .entry)) (now (store .entry)) true above (now (label .entry))) ⌝ }
 {
-    let Gap::Place(near) = first else {
-        return Gaps::Broken;
-    };
-    if near < apart {
+    if apart < lower {
+        return Gaps::Both {
+            lower,
+            upper: apart,
+        };
+    }
+    if lower < apart {
         return Gaps::Broken;
     }
-    if apart < near {
-        return both(upward, near, apart);
-    }
-    let other = toward(!upward, below, above);
-    let from = larger(1, apart);
-    let second = gap_beside(limits, table, store, label, !upward, other, from);
-    let Gap::Place(far) = second else {
+    let other = words::parts::held_label(limits, table, store, above);
+    let order = compares::at_place(other, label, apart);
+    if !is_toward(true, order) {
         return Gaps::Broken;
-    };
-    both(upward, near, far)
+    }
+    Gaps::Both {
+        lower,
+        upper: apart,
+    }
 }
 
-// Both difference places. The neighbour that the side names is compared in full: in a sound table the label agrees with
-// it at least as long as with the other one.
+// Both difference places of a label whose place and side are by them. With the neighbour that the side names it is to
+// part at the place: no other place is looked for.
 pub fn gaps_in(
     limits: Limits,
     table: &[u16],
     store: &[u8],
     label: &[u8],
+    place: usize,
     side: u16,
     below: usize,
     above: usize,
     apart: usize,
 ) -> Gaps
     requires { ⌜ Between limits (now table) (now store) below above apart ⌝ }
-    ensures { λ r. ⌜ r ≡ gapsIn limits (now (table .entry)) (now (store .entry)) below (now (label .entry)) above ⌝ }
+    ensures { λ r. ⌜ r
+        ≡ fieldsFine place side
+        (gapsIn limits (now (table .entry)) (now (store .entry)) below (now (label .entry)) above) ⌝ }
 {
-    if side == 0 {
-        let low = gap_beside(limits, table, store, label, false, below, 1);
-        return gaps_from(limits, table, store, label, false, low, below, above, apart);
+    if place == 0 {
+        return Gaps::Broken;
     }
-    let high = gap_beside(limits, table, store, label, true, above, 1);
-    gaps_from(limits, table, store, label, true, high, below, above, apart)
+    if 1 < side {
+        return Gaps::Broken;
+    }
+    let upward = side == 1;
+    let near = toward(upward, below, above);
+    if near == 0 {
+        return alone(place, upward, above);
+    }
+    if !parts_at(limits, table, store, label, upward, near, place) {
+        return Gaps::Broken;
+    }
+    if upward {
+        return by_upper(place, apart);
+    }
+    by_lower(limits, table, store, label, place, above, apart)
 }

@@ -1,76 +1,71 @@
 -- A node over its sons: the balance word, the height rule, and sizes that can be counted.
--- `balance-left`, `balance-right`, `balance-even`: the balance word of two heights.
--- `left-too-tall`, `right-too-tall`, `balance-untrue`, `balance-true`: a node over two sound sons.
+-- `balance-beyond`, `balance-untrue`, `balance-true`: a node over two sound sons.
 -- `right-unsound`, `right-sound`: a node over a sound left son; `sums-fit`: its nodes can be counted.
 -- `small-over`, `sons-fit`: sizes of a node and of its sons.
 use Prim.Native.Nat.{ℕ, suc, _+_, _≤_, _<_, max, Ordering}
-use mathlib.Core.Path.{_≡_, refl, sym, _∙_}
+use mathlib.Core.Path.{_≡_, refl}
 use mathlib.Core.Bool.{Bool, true, false, _&&_, cond}
 use native.Mathlib.Omega.{arith}
 use native.Mathlib.Nat.{pow-le-pow-right}
 use lib.Dec.{eqb, leb}
-use borrow.Author.Tests.{lt-leb, le-leb, eq-eqb, ne-eqb}
+use borrow.Author.Tests.{le-leb, eq-eqb}
 use Rattle.labels.proofs.Numbers.{Ordered, is-lt, is-eq, is-gt, ordered}
+use Rattle.labels.proofs.Numbers.{Leb, le-yes, le-no, leb-view, Eqb, eq-yes, eq-no, eqb-view}
 use Rattle.tables.specs.Prefix.{balanceBy, balanceOf}
 use Rattle.heights.specs.Over.{over}
 use Rattle.heights.specs.Fits.{Small, SonsFit, SumsFit}
 use Rattle.heights.specs.declared.Subtree.{Subtree}
 use Rattle.heights.specs.declared.Subtree.the-variants.{Unsound, Sound}
 
--- ---- the balance word
-
-module _ (l r : ℕ) where
-  -- the left is taller
-  pub balance-left : r < l → 0 ≡ balanceOf l r
-  balance-left h = go (ordered l r)
-    where
-      go : {o : Ordering} → Ordered l r o → 0 ≡ balanceBy o
-      go (is-lt p) = omega arith
-      go (is-eq p) = omega arith
-      go (is-gt p) = refl
-
-  -- the right is taller
-  pub balance-right : l < r → 2 ≡ balanceOf l r
-  balance-right h = go (ordered l r)
-    where
-      go : {o : Ordering} → Ordered l r o → 2 ≡ balanceBy o
-      go (is-lt p) = refl
-      go (is-eq p) = omega arith
-      go (is-gt p) = omega arith
-
-  -- both are as tall
-  pub balance-even : l ≤ r → r ≤ l → 1 ≡ balanceOf l r
-  balance-even p q = go (ordered l r)
-    where
-      go : {o : Ordering} → Ordered l r o → 1 ≡ balanceBy o
-      go (is-lt h) = omega arith
-      go (is-eq h) = refl
-      go (is-gt h) = omega arith
-
 -- ---- two sound sons
 
 module _ (balance h c k d : ℕ) where
-  -- the height rule is broken on the left
-  pub left-too-tall : k + 1 < h → Unsound ≡ over balance (Sound h c) (Sound k d)
-  unfolding over
-  left-too-tall p = rw (lt-leb _ _ p)
+  -- the true balance of heights that keep the rule is one more than what the right one has over the left one
+  leans : h ≤ k + 1 → k ≤ h + 1 → balance ≡ balanceOf h k → (balance ≤ 2) × (h + balance ≡ k + 1)
+  leans p q = go (ordered h k)
+    where
+      go : {o : Ordering} → Ordered h k o → balance ≡ balanceBy o → (balance ≤ 2) × (h + balance ≡ k + 1)
+      go (is-lt less) e = (omega arith, omega arith)
+      go (is-eq equal) e = (omega arith, omega arith)
+      go (is-gt more) e = (omega arith, omega arith)
 
-  -- the height rule is broken on the right
-  pub right-too-tall : h ≤ k + 1 → h + 1 < k → Unsound ≡ over balance (Sound h c) (Sound k d)
-  unfolding over
-  right-too-tall p q = rw (le-leb _ _ p, lt-leb _ _ q)
+  -- and the other way round
+  lean-true : balance ≤ 2 → h + balance ≡ k + 1 → balance ≡ balanceOf h k
+  lean-true low e = go (ordered h k)
+    where
+      go : {o : Ordering} → Ordered h k o → balance ≡ balanceBy o
+      go (is-lt less) = omega arith
+      go (is-eq equal) = omega arith
+      go (is-gt more) = omega arith
 
-  -- the balance is not the true one
-  pub balance-untrue : (b : ℕ) → h ≤ k + 1 → k ≤ h + 1 → b ≡ balanceOf h k → (balance ≡ b → ⊥)
-      → Unsound ≡ over balance (Sound h c) (Sound k d)
+  -- it is not so
+  untrue : (balance ≤ 2 → h + balance ≡ k + 1 → ⊥) → Unsound ≡ over balance (Sound h c) (Sound k d)
   unfolding over
-  balance-untrue b p q e n = rw (le-leb _ _ p, le-leb _ _ q, ne-eqb balance (balanceOf h k) (λ f. n (f ∙ sym e)))
+  untrue n = go (leb-view h (k + 1)) (leb-view k (h + 1)) (eqb-view balance (balanceOf h k))
+    where
+      go : {a b t : Bool} → Leb h (k + 1) a → Leb k (h + 1) b → Eqb balance (balanceOf h k) t
+          → Unsound ≡ cond (a && (b && t)) (Sound (max h k + 1) (c + d + 1)) Unsound
+      go (le-yes p) (le-yes q) (eq-yes e) = let lean = leans p q e in absurd (n (lean .0) (lean .1))
+      go (le-yes p) (le-yes q) (eq-no e) = refl
+      go (le-yes p) (le-no q) t = refl
+      go (le-no p) b t = refl
+
+  -- the word is no balance
+  pub balance-beyond : 2 < balance → Unsound ≡ over balance (Sound h c) (Sound k d)
+  balance-beyond beyond = untrue (λ low e. omega arith)
+
+  -- it is not the true one, or the height rule is broken
+  pub balance-untrue : (h + balance ≡ k + 1 → ⊥) → Unsound ≡ over balance (Sound h c) (Sound k d)
+  balance-untrue n = untrue (λ low e. n e)
 
   -- the height rule and the balance hold
-  pub balance-true : (b m : ℕ) → h ≤ k + 1 → k ≤ h + 1 → b ≡ balanceOf h k → balance ≡ b → m ≡ max h k
+  pub balance-true : (m : ℕ) → balance ≤ 2 → h + balance ≡ k + 1 → m ≡ max h k
       → Sound (m + 1) (c + d + 1) ≡ over balance (Sound h c) (Sound k d)
   unfolding over
-  balance-true b m p q e f g = rw (le-leb _ _ p, le-leb _ _ q, eq-eqb balance (balanceOf h k) (f ∙ e), g)
+  balance-true m low e g =
+      let left : h ≤ k + 1 = omega arith in
+      let right : k ≤ h + 1 = omega arith in
+      rw (le-leb _ _ left, le-leb _ _ right, eq-eqb balance (balanceOf h k) (lean-true low e), g)
 
 -- ---- a sound left son, and any right son
 

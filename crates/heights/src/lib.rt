@@ -1,6 +1,6 @@
 // A node over its two sons, in the soundness test: the height rule, the true balance, and how many nodes there are.
 ghost use mathlib.Core.Path.{_≡_};
-ghost use Rattle.tables.specs.Prefix.{balanceOf};
+ghost use Prim.Native.Nat.{max};
 ghost use Rattle.heights.specs.Over.{over};
 ghost use Rattle.heights.specs.Fits.{SumsFit, SonsFit};
 
@@ -10,35 +10,27 @@ pub enum Subtree {
     Sound { height: usize, count: usize },
 }
 
-// The balance word over sons of two heights.
-fn balance_of(left: usize, right: usize) -> u16
-    ensures { λ r. ⌜ r ≡ balanceOf left right ⌝ }
+// The larger of two numbers.
+fn larger(m: usize, n: usize) -> usize
+    ensures { λ r. ⌜ r ≡ max m n ⌝ }
 {
-    if right < left {
-        return 0;
-    }
-    if left < right {
-        return 2;
-    }
-    1
+    if m < n { n } else { m }
 }
 
-// A node over two sound sons of heights h and k, with c and d nodes.
+// A node over two sound sons of heights h and k, with c and d nodes. A balance word is one more than what the right
+// height has over the left one: that is the height rule too.
 pub fn over_sound(balance: u16, h: usize, c: usize, k: usize, d: usize) -> Subtree
     requires { ⌜ SumsFit h c k d ⌝ }
     ensures { λ r. ⌜ r ≡ over balance (Subtree.Sound h c) (Subtree.Sound k d) ⌝ }
 {
-    if k + 1 < h {
+    if 2 < balance {
         return Subtree::Unsound;
     }
-    if h + 1 < k {
-        return Subtree::Unsound;
-    }
-    if balance != balance_of(h, k) {
+    if h + balance as usize != k + 1 {
         return Subtree::Unsound;
     }
     Subtree::Sound {
-        height: gaps::larger(h, k) + 1,
+        height: larger(h, k) + 1,
         count: c + d + 1,
     }
 }

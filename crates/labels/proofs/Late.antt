@@ -1,4 +1,5 @@
 -- A comparison that starts late.
+-- `compare-equal`: a place where the numbers are equal leaves it to the further ones.
 -- `compare-late`: it finds what the whole comparison finds, if that ends at its first place or later.
 use mathlib.Core.List.{[], _∷_}
 use mathlib.Core.Path.{_≡_, refl, sym, ap, _∙_}
@@ -20,7 +21,7 @@ agree-before-end (is-same alike end) (suc j) early = alike .numbers (suc j)
 agree-before-end (is-larger s) (suc j) early = sym (s .before (suc j) (omega arith) early)
 
 -- equal numbers leave it to the further places
-compare-equal : (i m n : ℕ) (r : Comparison) → m ≡ n → compareNumbers (compare m n) i r ≡ r
+pub compare-equal : (i m n : ℕ) (r : Comparison) → m ≡ n → compareNumbers (compare m n) i r ≡ r
 compare-equal i m n r equal = go (ordered m n)
   where
     go : {o : Ordering} → Ordered m n o → compareNumbers o i r ≡ r

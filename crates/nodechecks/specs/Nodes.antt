@@ -1,7 +1,7 @@
 -- The test of a node between its neighbours, and that of a freed slot; what the test of a node takes for granted.
 use mathlib.Core.List.{List}
 use mathlib.Core.Path.{_≡_}
-use mathlib.Core.Bool.{Bool, true, false, _&&_}
+use mathlib.Core.Bool.{Bool, _&&_}
 use Prim.Native.Nat.{ℕ, _≤_}
 use lib.Dec.{eqb, leb}
 use lib.ListN.{drop}
@@ -9,11 +9,11 @@ use Rattle.types.specs.declared.Limits.{Limits}
 use Rattle.types.specs.declared.Row.{Row}
 use Rattle.labels.specs.Neighbours.{Neighbour, held, difference}
 use Rattle.tables.specs.Words.{rowAt, partAt, entryAt}
-use Rattle.tables.specs.Prefix.{placeBy, sideBy, placeWithin, sideWithin}
+use Rattle.tables.specs.Prefix.{placeWithin, sideWithin}
 use Rattle.tables.specs.Sound.{allZero, usedSlot, zeroBesidesLeft}
 use Rattle.gaps.specs.Windows.{belowIn, aboveIn, isBefore, Between}
+use Rattle.gaps.specs.Gapped.{bothWhen}
 use Rattle.gaps.specs.declared.Gaps.{Gaps}
-use Rattle.gaps.specs.declared.Gaps.the-variants.{Broken, Both}
 
 -- a slot in use, of which the row was read
 unfoldable pub usedRow : Limits → (store : List ℕ) → ℕ → Row → Bool
@@ -33,20 +33,6 @@ nodeFine limits table store k p s =
     && (isBefore (held (entryAt limits table store k .label)) s
     && (eqb (rowAt table k .place) (placeWithin p (entryAt limits table store k .label) s)
     && eqb (rowAt table k .side) (sideWithin p (entryAt limits table store k .label) s))))
-
--- two difference places, where a test passes
-abbrev pub bothWhen : Bool → (p q : ℕ) → Gaps
-bothWhen true p q = Both p q
-bothWhen false p q = Broken
-
--- the place and side of a node, of the difference places with its neighbours
-unfoldable pub fieldsFit : (place side below above : ℕ) → Bool
-fieldsFit place side below above = eqb place (placeBy below above) && eqb side (sideBy below above)
-
--- the difference places of a node whose place and side are by them
-unfoldable pub fieldsFine : Row → Gaps → Gaps
-fieldsFine row Broken = Broken
-fieldsFine row (Both p q) = bothWhen (fieldsFit (row .place) (row .side) p q) p q
 
 -- the test of the node in slot k, between the nodes in two slots
 abbrev pub fineBetween : Limits → (table store : List ℕ) → (k below above : ℕ) → Bool

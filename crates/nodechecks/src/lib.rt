@@ -8,7 +8,7 @@ ghost use lib.ListN.{drop};
 ghost use Rattle.tables.specs.Words.{partAt};
 ghost use Rattle.tables.specs.Sound.{allZero, zeroBesidesLeft};
 ghost use Rattle.gaps.specs.Windows.{PartFits};
-ghost use Rattle.nodechecks.specs.Nodes.{usedRow, freedRow, fieldsFit, fieldsFine, fineGaps, NodeFits};
+ghost use Rattle.nodechecks.specs.Nodes.{usedRow, freedRow, fineGaps, NodeFits};
 
 // Whether the bytes of a slot's part are zero from some byte on.
 fn part_zero(limits: Limits, store: &[u8], slot: usize, first: usize) -> bool
@@ -76,29 +76,6 @@ pub fn freed_row(limits: Limits, store: &[u8], slot: usize, row: Row) -> bool
     part_zero(limits, store, slot, 0)
 }
 
-// Whether place and side are those of the two difference places.
-fn fields_fit(place: usize, side: usize, below: usize, above: usize) -> bool
-    ensures { λ r. ⌜ r ≡ fieldsFit place side below above ⌝ }
-{
-    if place != gaps::larger(1, gaps::larger(below, above)) {
-        return false;
-    }
-    if above <= below { side == 0 } else { side == 1 }
-}
-
-// The difference places of a node whose place and side are by them.
-fn fields_fine(row: Row, both: Gaps) -> Gaps
-    ensures { λ r. ⌜ r ≡ fieldsFine row both ⌝ }
-{
-    let Gaps::Both { lower, upper } = both else {
-        return Gaps::Broken;
-    };
-    if !fields_fit(row.place as usize, row.side as usize, lower, upper) {
-        return Gaps::Broken;
-    }
-    Gaps::Both { lower, upper }
-}
-
 // The whole test of a node between the slots of its window, which part at a place.
 pub fn node_gaps(
     limits: Limits,
@@ -117,6 +94,16 @@ pub fn node_gaps(
         return Gaps::Broken;
     }
     let label = words::parts::label_at(limits, store, slot, row.len as usize);
-    let both = gaps::gaps_in(limits, table, store, label, row.side, below, above, apart);
-    fields_fine(row, both)
+    let place = row.place as usize;
+    gaps::gaps_in(
+        limits,
+        table,
+        store,
+        label,
+        place,
+        row.side,
+        below,
+        above,
+        apart,
+    )
 }

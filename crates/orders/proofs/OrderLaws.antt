@@ -2,16 +2,19 @@
 -- `decided`, `compare-decided`: it says how the comparison of their numbers goes on.
 -- `by-less`, `by-more`, `by-equal`: it is that of the numbers, from tests of them.
 -- `folded-less`, `folded-more`, `folded-equal`: the same, from tests of the bytes as they are folded.
+-- `same-number`, `same-folded`: whether their numbers are one, from tests of the bytes and of what they are folded to.
 -- `hides-smaller`, `shows-smaller`, `hides-larger`, `shows-larger`: what different bytes show of it.
 -- `same-bytes`, `shown-smaller`, `shown-larger`: it is what the bytes show, where they are the same or show one.
 use Prim.Native.Nat.{ℕ, _+_, _≤_, _<_, compare, Ordering}
-use mathlib.Core.Path.{_≡_, refl, sym, _∙_}
+use mathlib.Core.Path.{_≡_, refl, sym, ap, _∙_}
 use mathlib.Core.Bool.{Bool, true, false, _&&_, cond, true≢false}
 use native.Mathlib.Omega.{arith}
-use borrow.Author.Tests.{lt-ltb, le-ltb}
+use lib.Dec.{eqb}
+use borrow.Author.Tests.{lt-ltb, le-ltb, eq-eqb, ne-eqb}
 use Rattle.labels.specs.Labels.{Comparison, smaller, larger, folded, numberOf, compareNumbers}
 use Rattle.labels.proofs.Clashes.{clash}
 use Rattle.labels.proofs.Numbers.{Ordered, is-lt, is-eq, is-gt, ordered, Ltb, lt-yes, lt-no, ltb-view}
+use Rattle.labels.proofs.Numbers.{Eqb, eq-yes, eq-no, eqb-view}
 use Rattle.labels.proofs.Numbers.{Leb, le-yes, le-no, leb-view, Numbered, of-capital, of-other, number-view}
 use Rattle.orders.specs.Orders.{byNumbers, parts, shown}
 use Rattle.orders.specs.declared.Order.{Order}
@@ -54,6 +57,19 @@ module _ (a b : ℕ) where
     pub folded-equal : n ≤ m → m ≤ n → Same ≡ byNumbers a b
     folded-equal beyond within =
         by-equal (m + 1) (n + 1) (number-folded a m em) (number-folded b n en) (omega arith) (omega arith)
+
+    pub same-folded : eqb m n ≡ eqb (numberOf a) (numberOf b)
+    same-folded = go (eqb-view m n)
+      where
+        go : {found : Bool} → Eqb m n found → found ≡ eqb (numberOf a) (numberOf b)
+        go (eq-yes equal) =
+            sym (eq-eqb (numberOf a) (numberOf b) (omega (arith, number-folded a m em, number-folded b n en)))
+        go (eq-no other) =
+            sym (ne-eqb (numberOf a) (numberOf b)
+            (λ e. other (omega (arith, e, number-folded a m em, number-folded b n en))))
+
+  pub same-number : a ≡ b → true ≡ eqb (numberOf a) (numberOf b)
+  same-number same = sym (eq-eqb (numberOf a) (numberOf b) (ap numberOf same))
 
   -- the comparison of their numbers, by their order
   pub compare-decided : (i : ℕ) (further : Comparison)

@@ -1,6 +1,7 @@
 // The order of two labels by the bytes at one place, or by their ends.
 ghost use mathlib.Core.Path.{_≡_};
-ghost use Rattle.labels.specs.Labels.{folded};
+ghost use lib.Dec.{eqb};
+ghost use Rattle.labels.specs.Labels.{folded, numberOf};
 ghost use Rattle.orders.specs.Orders.{byNumbers, parts, shown, atEnd};
 
 // How the first of two labels lies to the second.
@@ -66,6 +67,16 @@ fn folded(byte: u8) -> u8
         return byte;
     }
     byte + 32
+}
+
+// Whether one number stands for two bytes.
+pub fn same_letter(a: u8, b: u8) -> bool
+    ensures { λ r. ⌜ r ≡ eqb (numberOf a) (numberOf b) ⌝ }
+{
+    if a == b {
+        return true;
+    }
+    folded(a) == folded(b)
 }
 
 // The order by two bytes, with no table.

@@ -7,28 +7,30 @@ use native.Mathlib.Omega.{arith}
 use lib.ListN.{length}
 use borrow.Author.Needs.{needs}
 use Rattle.compares.specs.Compares.{rest}
-use Rattle.compares.proofs.Laws.{four-same}
-use borrow.Author.Tests.{not-false}
+use Rattle.compares.proofs.Laws.{past-some, past-four}
 use Rattle.compares.proofs.past_fours.Statement.{statement}
 use Rattle.compares.proofs.past_fours.Tie as tie
 
 abbrev Inv-loop : tie.InvT-loop
-Inv-loop x y from end i₀ i = (from ≤ i) × ((i ≤ length y) × (rest x y i ≡ rest x y from))
+Inv-loop x y from end last i₀ i = (from ≤ i) × ((i ≤ length y) × (rest x y i ≡ rest x y from))
 
 abbrev μ-loop : tie.MeasureT-loop
-μ-loop x y from end i₀ i = end - i
+μ-loop x y from end last i₀ i = end - i
+
+returns : tie.Need-returns Inv-loop μ-loop
+returns c = (refl, search needs)
 
 loop-holds : tie.Need-loop-holds Inv-loop μ-loop
 loop-holds c = (omega arith, (omega arith, refl))
 
-add-loop : tie.Need-add-loop Inv-loop μ-loop
-add-loop c = omega arith
+same-of-four-requires : tie.Need-same-of-four-requires Inv-loop μ-loop
+same-of-four-requires c κs = search needs
 
-same-four-requires : tie.Need-same-four-requires Inv-loop μ-loop
-same-four-requires c κs = search needs
+add-result : tie.Need-add-result Inv-loop μ-loop
+add-result c = omega arith
 
-returns : tie.Need-returns Inv-loop μ-loop
-returns c = (search needs, search needs)
+returns-2 : tie.Need-returns-2 Inv-loop μ-loop
+returns-2 c = (search past-some, search needs)
 
 add-i : tie.Need-add-i Inv-loop μ-loop
 add-i c = omega arith
@@ -37,10 +39,10 @@ loop-less : tie.Need-loop-less Inv-loop μ-loop
 loop-less c = omega arith
 
 loop-again : tie.Need-loop-again Inv-loop μ-loop
-loop-again c = (omega arith, (omega arith, search (four-same, not-false)))
+loop-again c = (omega arith, (omega arith, search past-four))
 
-returns-2 : tie.Need-returns-2 Inv-loop μ-loop
-returns-2 c = (search needs, search needs)
+returns-3 : tie.Need-returns-3 Inv-loop μ-loop
+returns-3 c = (search needs, search needs)
 
 pub past-fours-spec : {M : Type 1} → statement M
 past-fours-spec =
@@ -48,11 +50,12 @@ past-fours-spec =
     (tie.spec
     Inv-loop
     μ-loop
-    loop-holds
-    add-loop
-    same-four-requires
     returns
+    loop-holds
+    same-of-four-requires
+    add-result
+    returns-2
     add-i
     loop-less
     loop-again
-    returns-2)
+    returns-3)

@@ -1,7 +1,7 @@
 -- `node_gaps` meets its contract: one law for each way out.
 use borrow.Author.Tests.{not-true, not-false}
-use Rattle.nodechecks.proofs.NodeLaws.{label-shown, node-unused, node-used, node-placed}
 use borrow.Author.Needs.{needs}
+use Rattle.nodechecks.proofs.NodeLaws.{node-unused, node-used, node-placed}
 use Rattle.nodechecks.proofs.node_gaps.Statement.{statement}
 use Rattle.nodechecks.proofs.node_gaps.Tie as tie
 
@@ -17,14 +17,14 @@ cast-label-at c = search needs
 label-at-requires : tie.Need-label-at-requires
 label-at-requires c κs = search (node-used, not-false)
 
-gaps-in-requires : tie.Need-gaps-in-requires
-gaps-in-requires c κs = search (needs, label-shown)
+cast-place : tie.Need-cast-place
+cast-place c = search needs
 
-fields-fine-requires : tie.Need-fields-fine-requires
-fields-fine-requires c κs = search needs
+gaps-in-requires : tie.Need-gaps-in-requires
+gaps-in-requires c κs = search needs
 
 returns-2 : tie.Need-returns-2
-returns-2 c = search (node-placed, not-false, label-shown)
+returns-2 c = search (node-placed, not-false)
 
 pub node-gaps-spec : {M : Type 1} → statement M
 node-gaps-spec =
@@ -34,6 +34,6 @@ node-gaps-spec =
     returns
     cast-label-at
     label-at-requires
+    cast-place
     gaps-in-requires
-    fields-fine-requires
     returns-2)
