@@ -65,34 +65,8 @@ fn past_fours(x: &[u8], y: &[u8], from: usize, end: usize) -> usize
     i
 }
 
-// How x lies to y from the index from on, place by place; the shorter label ends at `end`. Unlike bytes are folded.
-pub fn by_one(x: &[u8], y: &[u8], from: usize, end: usize) -> Compared
-    requires { ⌜ EndsAt (now x) (now y) from end ⌝ }
-    ensures { λ r. ⌜ comparisonOf r ≡ rest (now (x .entry)) (now (y .entry)) from ⌝ }
-    ensures { λ r. ⌜ EndsWithin (from + 1) (now (y .entry)) (r .place) ⌝ }
-{
-    let mut i = from;
-    while i < end {
-        let order = orders::by_letters(x[i], y[i]);
-        let place = i + 1;
-        match order {
-            Order::Smaller => {
-                return Compared { order, place };
-            }
-            Order::Same => {
-                i = place;
-            }
-            Order::Larger => {
-                return Compared { order, place };
-            }
-        }
-    }
-    let order = orders::at_end(x.len(), y.len(), i);
-    let place = i + 1;
-    Compared { order, place }
-}
-
-// The same for a search: unlike bytes are folded only where they do not show the order.
+// How x lies to y from the index from on, place by place; the shorter label ends at `end`. Unlike bytes are folded only
+// where they do not show the order.
 fn onward(x: &[u8], y: &[u8], from: usize, end: usize) -> Compared
     requires { ⌜ EndsAt (now x) (now y) from end ⌝ }
     ensures { λ r. ⌜ comparisonOf r ≡ rest (now (x .entry)) (now (y .entry)) from ⌝ }

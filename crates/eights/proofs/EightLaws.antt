@@ -111,7 +111,9 @@ passed-eight x y i j end found have long within test is so =
     let e : suc i + 8 ≡ suc (i + 8) = omega arith in
     sym (rw e at (same-places x y i (omega (arith, have .first)) (test .same is))) ∙ so
 
--- what is found from an index on that was reached from place d
-pub found-after : (x y : Label) (d i : ℕ) (k : Comparison) → 1 ≤ d → k ≡ rest x y i → rest x y i ≡ rest x y (d - 1)
-    → k ≡ compareFrom d x y
-found-after x y d i k positive found so = found ∙ so ∙ rest-start d x y positive
+-- what is found from the place after an index that was reached from place d
+pub found-after : (x y : Label) (d i : ℕ) (k : Comparison) → 1 ≤ d → k ≡ compareFrom (i + 1) x y
+    → rest x y i ≡ rest x y (d - 1) → k ≡ compareFrom d x y
+found-after x y d i k positive found so =
+    let at : i + 1 - 1 ≡ i = omega arith in
+    found ∙ sym (rw at at (rest-start (i + 1) x y (omega arith))) ∙ so ∙ rest-start d x y positive

@@ -67,7 +67,7 @@ pub fn compare(x: &[u8], y: &[u8], d: usize) -> Compared
 {
     let end = compares::shorter(x.len(), y.len());
     let i = past_same(x, y, d - 1, end);
-    compares::by_one(x, y, i, end)
+    compares::by_table(x, y, i + 1)
 }
 
 // Whether two labels agree before a place.

@@ -1,5 +1,6 @@
--- Both difference places, by the one with the neighbour below.
--- `lower-late`, `lower-early`: where it is not the window's, that says all.
+-- Both difference places, by the one with the neighbour above, or below.
+-- `upper-early`, `upper-late`: that with the one above is after the window's, or they are wrong.
+-- `lower-late`, `lower-early`: where that with the one below is not the window's, that says all.
 -- `tie-row`, `tie-inside`, `tie-starts`: where it is, the neighbour above is read, and compared at that place.
 -- `tie-broken`, `tie-both`: its order there decides.
 use Prim.Native.Nat.{ℕ, _≤_, _<_}
@@ -16,9 +17,16 @@ use Rattle.compares.specs.Compares.{orderAt}
 use Rattle.words.specs.Rows.{HasRow}
 use Rattle.words.specs.Parts.{LabelInside}
 use Rattle.gaps.specs.Windows.{isToward, Beside, MayTie}
-use Rattle.gaps.specs.Gapped.{Gap, partsAt, gapIn, byLower}
+use Rattle.gaps.specs.Gapped.{Gap, partsAt, gapIn, byUpper, byLower}
 use Rattle.gaps.specs.declared.Gaps.the-variants.{Broken, Both}
 use Rattle.gaps.proofs.GapLaws.{beside-row, beside-inside, parts-late}
+
+module _ (upper apart : ℕ) where
+  pub upper-early : upper ≤ apart → Broken ≡ byUpper upper apart
+  upper-early early = rw (le-ltb apart upper early)
+
+  pub upper-late : apart < upper → Both apart upper ≡ byUpper upper apart
+  upper-late late = rw (lt-ltb apart upper late)
 
 module _ (lower apart : ℕ) where
   -- it lies after the window's, or before it

@@ -13,12 +13,22 @@ sub-past-same c = search needs
 past-same-requires : tie.Need-past-same-requires
 past-same-requires c κs = search needs
 
-by-one-requires : tie.Need-by-one-requires
-by-one-requires c κs = search needs
+add-by-table : tie.Need-add-by-table
+add-by-table c = search needs
+
+by-table-requires : tie.Need-by-table-requires
+by-table-requires c κs = search needs
 
 returns : tie.Need-returns
 returns c = (search found-after, search needs)
 
 pub compare-spec : {M : Type 1} → statement M
 compare-spec =
-    tie.close (tie.spec shorter-requires sub-past-same past-same-requires by-one-requires returns)
+    tie.close
+    (tie.spec
+    shorter-requires
+    sub-past-same
+    past-same-requires
+    add-by-table
+    by-table-requires
+    returns)
