@@ -3,6 +3,13 @@
 
 enum { CHANGED_BITS = 4000 };
 
+/* The same answer but for the places, of which the second has as many or more. */
+static bool same_but_places(uint64_t said, uint64_t before)
+{
+    uint64_t more = (uint64_t)strap_places_of(before) - strap_places_of(said);
+    return strap_places_of(before) >= strap_places_of(said) && before == said + (more << 4);
+}
+
 static void compare_search(const struct workload *w, const uint8_t *x, size_t n)
 {
     const struct index *index = w->index;
@@ -13,6 +20,8 @@ static void compare_search(const struct workload *w, const uint8_t *x, size_t n)
         fail("a search was refused");
     if (said != index->digital_search(w->table, index->words, w->store, index->bytes, x, n))
         fail("the C of the same method answers otherwise");
+    if (!same_but_places(said, index->digital_before(w->table, index->words, w->store, index->bytes, x, n)))
+        fail("the steps before M-106 answer otherwise");
     if (strap_kind_of(whole) != strap_kind_of(said) || strap_visits_of(whole) != strap_visits_of(said) ||
         strap_places_of(whole) < strap_places_of(said))
         fail("the search with whole labels goes another way");

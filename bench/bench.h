@@ -10,6 +10,7 @@
 enum { SLOTS = STRAP_PAGE_SLOTS, WIDTH = STRAP_PAGE_WIDTH, DEPTH = 6 };
 enum { WORDS = STRAP_PAGE_WORDS, BYTES = STRAP_PAGE_BYTES };
 #define digital_search page_digital_search
+#define digital_before page_digital_before
 #define sound_check page_sound_check
 #define whole_search page_whole_search
 #define whole_counts page_whole_counts
@@ -89,8 +90,8 @@ typedef uint64_t search_call(const uint16_t *table, size_t words, const uint8_t 
 typedef uint64_t check_call(const uint16_t *table, size_t words, const uint8_t *store, size_t bytes);
 typedef uint64_t whole_call(const uint16_t *table, const uint8_t *store, const uint8_t *label, size_t n);
 
-/* digital.c: the same search in plain C, over the same words and bytes */
-search_call digital_search, page_digital_search;
+/* digital.c: the same search in plain C, over the same words and bytes; and by the steps before M-106 */
+search_call digital_search, page_digital_search, digital_before, page_digital_before;
 
 /* sound.c: the soundness test in plain C */
 check_call sound_check, page_sound_check;

@@ -80,7 +80,7 @@ static void answers(void)
     says("insert c", said = insert("c", 40), STRAP_UPDATED, 4, 0);
     counts("insert c", said, 2, 2);
     says("search da", said = search("da"), STRAP_ABSENT, 0, 0);
-    counts("search da", said, 3, 4);
+    counts("search da", said, 3, 3);
     says("search dd", said = search("dd"), STRAP_FOUND, 3, 65535);
     counts("search dd", said, 2, 4);
     says("check", check(), STRAP_DONE, 0, 0);

@@ -10,13 +10,15 @@ void print_workloads(void)
     printf("run\tqueries\t%d\nrun\tupdates\t%d\n", QUERIES, UPDATES);
     for (int number = 0; number < WORKLOADS; number++) {
         const struct workload *w = make(number);
-        double visits = 0, digital = 0, whole = 0;
+        double visits = 0, digital = 0, before = 0, whole = 0;
         for (size_t i = 0; i < QUERIES; i++) {
             const uint8_t *x = w->queries.at[i].bytes;
             size_t n = w->queries.at[i].len;
             uint64_t said = w->index->search(w->table, w->index->words, w->store, w->index->bytes, x, n);
             visits += strap_visits_of(said);
             digital += strap_places_of(said);
+            said = w->index->digital_before(w->table, w->index->words, w->store, w->index->bytes, x, n);
+            before += strap_places_of(said);
             whole += strap_places_of(w->index->whole_counts(w->table, w->folded_store, x, n));
         }
         printf("%d\tseries\t%s\n%d\tname\t%s\n", number, w->series, number, w->name);
@@ -25,6 +27,8 @@ void print_workloads(void)
                    w->table_name);
         printf("%d\tvisits\t%f\n", number, visits / QUERIES);
         printf("%d\tplaces, index\t%f\n", number, digital / QUERIES);
+        printf("%d\tplaces before\t%f\n", number, before / QUERIES);
+        printf("%d\tsaved\t%.0f\n", number, before - digital);
         printf("%d\tplaces, whole labels\t%f\n", number, whole / QUERIES);
     }
 }

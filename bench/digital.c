@@ -1,13 +1,16 @@
-/* The search of the index in plain C: the same steps, the same refusals and the same counts. */
+/* The search of the index in plain C: the same steps, the same refusals and the same counts; and the same without the
+ * first line of the steps, as they were before M-106. */
 #include "bench.h"
+#include <stdbool.h>
 
 static uint64_t refused(enum strap_refusal number)
 {
     return pack(STRAP_REFUSED, 0, 0, number, 0);
 }
 
-uint64_t digital_search(const uint16_t *table, size_t words, const uint8_t *store, size_t bytes, const uint8_t *label,
-                        size_t n)
+static inline __attribute__((always_inline)) uint64_t by_steps(bool first_line, const uint16_t *table, size_t words,
+                                                               const uint8_t *store, size_t bytes,
+                                                               const uint8_t *label, size_t n)
 {
     if (words != WORDS)
         return refused(STRAP_WRONG_TABLE);
@@ -28,8 +31,9 @@ uint64_t digital_search(const uint16_t *table, size_t words, const uint8_t *stor
             return refused(STRAP_BROKEN_WALK);
         visits++;
         size_t reached = side == 0 ? p : s;
-        if (reached != d) {
-            link = row[(reached < d) == (side == 0)];
+        /* with s above d, what has reached d is p: side successor goes by s */
+        if (reached != d || (first_line && s > d)) {
+            link = row[(reached <= d) == (side == 0)];
             continue;
         }
         const uint8_t *held = store + WIDTH * (link - 1);
@@ -45,4 +49,16 @@ uint64_t digital_search(const uint16_t *table, size_t words, const uint8_t *stor
         link = row[larger];
     }
     return pack(STRAP_ABSENT, places, visits, 0, 0);
+}
+
+uint64_t digital_search(const uint16_t *table, size_t words, const uint8_t *store, size_t bytes, const uint8_t *label,
+                        size_t n)
+{
+    return by_steps(true, table, words, store, bytes, label, n);
+}
+
+uint64_t digital_before(const uint16_t *table, size_t words, const uint8_t *store, size_t bytes, const uint8_t *label,
+                        size_t n)
+{
+    return by_steps(false, table, words, store, bytes, label, n);
 }

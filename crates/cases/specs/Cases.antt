@@ -88,7 +88,8 @@ two = three ++ (delete (a ∷ b ∷ c ∷ []) ∷ [])
 abbrev pub case : ℕ → Question → Finding → Case
 case number asks shows = record { number = number; asks = asks; shows = shows }
 
--- the table: calls made on a fresh table, and after them each case by its number on paper
+-- the table: calls made on a fresh table, and after them each case by its number on paper; case 6 as M-106 of document
+-- 02 has it: "Case 6 becomes 3 and 3"
 unfoldable pub starred : List Scene
 starred =
     record { calls = []; cases = case 1 (call (search (a ∷ []))) (answers (absent 0 0)) ∷ [] }
@@ -104,7 +105,7 @@ starred =
       cases =
           case 4 (prefix (a ∷ [])) (fields 1 1)
           ∷ case 5 (prefix (c ∷ [])) (fields 1 0)
-          ∷ case 6 (call (search (d ∷ a ∷ []))) (answers (absent 3 4))
+          ∷ case 6 (call (search (d ∷ a ∷ []))) (answers (absent 3 3))
           ∷ case 7 (call (search (d ∷ d ∷ []))) (answers (found 3 30 2 4))
           ∷ [];
     }

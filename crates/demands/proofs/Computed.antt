@@ -6,7 +6,7 @@ use mathlib.Core.List.{List, [], _∷_}
 use mathlib.Core.Path.{_≡_, refl, ap}
 use Prim.Native.Nat.{ℕ}
 use native.Mathlib.Omega.{arith}
-use lib.ListN.{getD, replicate, length-replicate}
+use lib.ListN.{length, getD, set, replicate, length-set, length-replicate}
 use Rattle.types.specs.declared.Row.{Row}
 use Rattle.types.specs.Sizes.{hub, tableLength, storeLength}
 use Rattle.types.specs.Answers.{Answer, found, absent, updated, listed, done, refused}
@@ -15,13 +15,14 @@ use Rattle.trees.specs.Plain.{Call, insert, delete}
 use Rattle.tables.proofs.Depths.{hub-depth}
 use Rattle.tables.specs.Words.{labelsHeld, rowAt, partAt, labelAt}
 use Rattle.tables.specs.Written.{Memory, writtenTable, writtenStore}
-use Rattle.tables.specs.Steps.{isBad, searchSteps}
+use Rattle.tables.specs.Steps.{isBad, walkFromRoot, searchSteps}
 use Rattle.tables.specs.Sound.{wordsAndBytes, counted, soundAs, sound, stateOf}
-use Rattle.tables.specs.Outcomes.{Outcome, searchOutcome, layoutOutcome, updateOutcome, listingOutcome}
-use Rattle.cases.specs.Cases.{a, b, c, three, laidOut}
+use Rattle.tables.specs.Outcomes.{Outcome, walkAnswer, searchOutcome, layoutOutcome, updateOutcome, listingOutcome}
+use Rattle.cases.specs.Cases.{a, b, c, d, roster, three, laidOut}
 use Rattle.tables.specs.Claims.{labelIn, LabelFits}
 use Rattle.demands.specs.Counts.{afterList}
-use Rattle.demands.specs.Trials.{Fair}
+use Rattle.demands.specs.Ties.{stepsBefore, tiesMet}
+use Rattle.demands.specs.Trials.{Fair, stepOnBoth}
 use Rattle.demands.specs.UpdateTrials.{lastNumbers}
 use Rattle.demands.proofs.SoundAfter.{sound-after}
 
@@ -69,6 +70,22 @@ capital = 65 ∷ []
 pub small-is-not-capital : _≡_ {A = Label} (a ∷ []) capital → ⊥
 small-is-not-capital same = let bytes : _≡_ {A = ℕ} 97 65 = ap (λ (x : Label). getD x 0 0) same in omega arith
 
+-- "ab" with "ac" on its right, whose place, word 14, and side, word 15, are made 1
+abbrev pub two : List Call
+two = insert (a ∷ b ∷ []) 1 ∷ insert (a ∷ c ∷ []) 2 ∷ []
+
+abbrev pub sidedTable : List ℕ
+sidedTable = set (set (after two .table) 14 1) 15 1
+
+abbrev pub sidedStore : List ℕ
+sidedStore = after two .store
+
+pub sided-words : length sidedTable ≡ tableLength hub
+sided-words = rw (length-set, length-set) (fair-two two {one = a} {two = b} .holds .words)
+
+pub sided-bytes : length sidedStore ≡ storeLength hub
+sided-bytes = fair-two two {one = a} {two = b} .holds .bytes
+
 -- a label under "b": its new slot is 2, it has this side, and its search ended with both numbers at 1
 pub record UnderB (x : Label) (side : ℕ) : Type 0 where
   pub answer : next onlyB (insert x 20) .answer ≡ updated 2 1 1
@@ -115,13 +132,20 @@ pub record Shown : Type 0 where
   pub shown-small : labelIn hub (after onlyA) 1 ≡ a ∷ []
   pub capital-in : next [] (insert capital 5) .answer ≡ updated 1 0 0
   pub shown-capital : labelIn hub (next [] (insert capital 5) .memory) 1 ≡ capital
+  -- case 6, by the search steps and by those before M-106; the first line applies once
+  pub tie-now : searched roster (d ∷ a ∷ []) ≡ absent 3 3
+  pub tie-before : walkAnswer (stepsBefore hub (after roster .table) (after roster .store) (d ∷ a ∷ [])) ≡ absent 3 4
+  pub tie-met : tiesMet hub (after roster .table) (after roster .store) (d ∷ a ∷ []) ≡ 1
+  -- "ac" in that table, by the search steps and with the line of the tie on side successor too
+  pub both-now : searchOutcome hub sidedTable sidedStore (a ∷ c ∷ []) ≡ found 2 2 2 5
+  pub both-sides : walkAnswer (walkFromRoot stepOnBoth hub sidedTable sidedStore (a ∷ c ∷ [])) ≡ absent 2 2
 
 -- All of it holds by computation.
 pub shown : Shown
 unfolding
     after lastNumbers numberOf compareLabels compareFrom differencePlace rowAt partAt labelAt writtenTable
-    writtenStore isBad searchSteps wordsAndBytes counted soundAs sound stateOf searchOutcome layoutOutcome
-    updateOutcome listingOutcome
+    writtenStore isBad searchSteps stepsBefore tiesMet wordsAndBytes counted soundAs sound stateOf searchOutcome
+    layoutOutcome updateOutcome listingOutcome
 shown = record {
   none-held = refl;
   one-held = refl;
@@ -150,4 +174,9 @@ shown = record {
   shown-small = refl;
   capital-in = refl;
   shown-capital = refl;
+  tie-now = refl;
+  tie-before = refl;
+  tie-met = refl;
+  both-now = refl;
+  both-sides = refl;
 }

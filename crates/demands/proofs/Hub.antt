@@ -3,6 +3,7 @@
 -- hub-counts: a search visits at most 12 nodes and examines at most 76 places.
 -- hub-breaks: one node more breaks a walk. hub-refuses-page: the page's table is refused by 1.
 -- hub-one-name, hub-spelling-stays: spellings of one name.
+-- hub-tie-saves: the places that the first line of the search steps saves.
 use native.Mathlib.Omega.{arith}
 use Rattle.types.specs.Sizes.{hub, page}
 use Rattle.tables.proofs.Depths.{hub-depth}
@@ -11,6 +12,7 @@ use Rattle.sounds.proofs.SoundIsWritten.{sound-is-written}
 use Rattle.demands.specs.Counts.{CountsWithin, BreaksAfter}
 use Rattle.demands.specs.OtherMemory.{RefusesTableOf}
 use Rattle.demands.specs.Spellings.{OneName, SpellingStays}
+use Rattle.demands.specs.Ties.{TieSaves}
 use Rattle.demands.proofs.CostRule.{cost-rule}
 use Rattle.demands.proofs.OrderedMap.{ordered-map}
 use Rattle.demands.proofs.Counts.{counts-within}
@@ -18,6 +20,7 @@ use Rattle.demands.proofs.Breaks.{breaks-after}
 use Rattle.demands.proofs.OtherMemory.{wrong-table-refused}
 use Rattle.demands.proofs.OneName.{one-name}
 use Rattle.demands.proofs.Spellings.{spelling-stays}
+use Rattle.demands.proofs.Ties.{tie-saves}
 
 -- Demand 2 at the hub.
 pub hub-ordered-map : OrderedMap hub
@@ -49,3 +52,7 @@ hub-one-name = one-name hub
 
 pub hub-spelling-stays : SpellingStays hub
 hub-spelling-stays = spelling-stays hub hub-depth
+
+-- On a sound table of the hub, the walk before M-106 examined a place more at each node where its line applies.
+pub hub-tie-saves : TieSaves hub
+hub-tie-saves = tie-saves hub hub-depth

@@ -15,6 +15,8 @@ pub mod Spellings
 pub mod Counts
 pub mod OtherMemory
 pub mod Breaks
+pub mod TieSteps
+pub mod Ties
 pub mod Hub
 pub mod Page
 pub mod SoundAfter

@@ -3,6 +3,7 @@
 -- page-counts: a search visits at most 6 nodes and examines at most 26 places.
 -- page-breaks: one node more breaks a walk. page-refuses-hub: the hub's table is refused by 1.
 -- page-one-name, page-spelling-stays: spellings of one name.
+-- page-tie-saves: the places that the first line of the search steps saves.
 use native.Mathlib.Omega.{arith}
 use Rattle.types.specs.Sizes.{hub, page}
 use Rattle.tables.proofs.Depths.{page-depth}
@@ -11,6 +12,7 @@ use Rattle.sounds.proofs.SoundIsWritten.{sound-is-written}
 use Rattle.demands.specs.Counts.{CountsWithin, BreaksAfter}
 use Rattle.demands.specs.OtherMemory.{RefusesTableOf}
 use Rattle.demands.specs.Spellings.{OneName, SpellingStays}
+use Rattle.demands.specs.Ties.{TieSaves}
 use Rattle.demands.proofs.CostRule.{cost-rule}
 use Rattle.demands.proofs.OrderedMap.{ordered-map}
 use Rattle.demands.proofs.Counts.{counts-within}
@@ -18,6 +20,7 @@ use Rattle.demands.proofs.Breaks.{breaks-after}
 use Rattle.demands.proofs.OtherMemory.{wrong-table-refused}
 use Rattle.demands.proofs.OneName.{one-name}
 use Rattle.demands.proofs.Spellings.{spelling-stays}
+use Rattle.demands.proofs.Ties.{tie-saves}
 
 -- Demand 2 at the page.
 pub page-ordered-map : OrderedMap page
@@ -49,3 +52,7 @@ page-one-name = one-name page
 
 pub page-spelling-stays : SpellingStays page
 page-spelling-stays = spelling-stays page page-depth
+
+-- On a sound table of the page, the walk before M-106 examined a place more at each node where its line applies.
+pub page-tie-saves : TieSaves page
+page-tie-saves = tie-saves page page-depth

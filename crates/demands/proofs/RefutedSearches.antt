@@ -3,10 +3,12 @@
 -- fixed-search-fails, absent-always-fails, refused-always-fails, never-finding-fails: searches that answer at once.
 -- skipping-first-fails, stopping-at-zero-fails: searches that start a compare too late, or stop at byte zero.
 -- exact-search-fails: a search exact to the byte.
+-- compared-tie-fails, search-as-before-fails: a search that compares at the tie of case 6.
+-- ties-on-both-fail: a search with the line of the tie on side successor too.
 -- no-one-count: two answers with unlike counts do not give one number.
 -- fixed-search-counts-fail, invented-search-counts-fail: searches with counts that are not those of the steps.
 use mathlib.Core.List.{List, [], _∷_}
-use mathlib.Core.Option.{some}
+use mathlib.Core.Option.{none, some}
 use mathlib.Core.Path.{_≡_, refl, sym, ap, _∙_}
 use Prim.Native.Nat.{ℕ}
 use native.Mathlib.Omega.{arith}
@@ -16,12 +18,12 @@ use Rattle.labels.specs.Labels.{Label}
 use Rattle.labels.proofs.Clashes.{clash}
 use Rattle.trees.specs.Plain.{Call}
 use Rattle.tables.specs.Steps.{searchSteps}
-use Rattle.cases.specs.Cases.{a, b}
+use Rattle.cases.specs.Cases.{a, b, c, d, roster}
 use Rattle.demands.specs.Trials.{SearchVersion, MeetsSearch, NeverFinds, Count, visits, places, ofCounts}
 use Rattle.demands.specs.Trials.{countIn, countOf, SearchesAnswer, SearchesCount, SkipsFirst, StopsAtZero}
-use Rattle.demands.specs.Trials.{FindsExactly}
+use Rattle.demands.specs.Trials.{FindsExactly, SearchesAsBefore, TiesOnBoth}
 use Rattle.demands.proofs.Computed.{after, fair-one, fair-two, searched, onlyA, capital, shown}
-use Rattle.demands.proofs.Computed.{small-is-not-capital}
+use Rattle.demands.proofs.Computed.{small-is-not-capital, sidedTable, sidedStore, sided-words, sided-bytes}
 use Rattle.demands.proofs.CountsGiven.{search-counts}
 
 -- A count that an answer gives is no one number where two answers give unlike ones.
@@ -78,6 +80,30 @@ exact-search-fails f exact meets =
     let same-bytes = exact (after onlyA .table) (after onlyA .store) capital (fair-one onlyA) 1 5 1 2
     (answered f meets onlyA capital ∙ shown .capital-held) in
     small-is-not-capital (sym (shown .shown-small) ∙ same-bytes)
+
+-- A search that answers case 6 with 3 and 4 fails.
+pub compared-tie-fails : (f : SearchVersion)
+    → f (after roster .table) (after roster .store) (d ∷ a ∷ []) ≡ absent 3 4 → ¬ MeetsSearch f
+compared-tie-fails f answers meets =
+    let same : absent 3 4 ≡ absent 3 3 = sym answers ∙ answered f meets roster (d ∷ a ∷ []) ∙ shown .tie-now in
+    let places : _≡_ {A = ℕ} 4 3 = ap placesIn same in
+    omega arith
+  where
+    placesIn : Answer → ℕ
+    placesIn answer = elim (countIn places answer) [ none ↦ 0 | some n ↦ n ]
+
+-- So does a search by the steps before M-106.
+pub search-as-before-fails : (f : SearchVersion) → SearchesAsBefore f → ¬ MeetsSearch f
+search-as-before-fails f before =
+    compared-tie-fails f
+    (before (after roster .table) (after roster .store) (d ∷ a ∷ []) (fair-two roster) ∙ shown .tie-before)
+
+-- A search with that line on side successor too fails: it goes another way where S has reached a place and P is above.
+pub ties-on-both-fail : (f : SearchVersion) → TiesOnBoth f → ¬ MeetsSearch f
+ties-on-both-fail f both meets =
+    let other-way = both sidedTable sidedStore (a ∷ c ∷ []) sided-words sided-bytes
+    (record { some = omega arith; short = omega arith }) in
+    clash (cc (other-way, meets sidedTable sidedStore (a ∷ c ∷ []), shown .both-now, shown .both-sides))
 
 -- A search that gives one fixed number for its visits, or for its places, fails.
 pub fixed-search-counts-fail : (k : Count) (n : ℕ) (f : SearchVersion)

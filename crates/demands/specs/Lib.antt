@@ -1,6 +1,7 @@
 pub mod Counts
 pub mod OtherMemory
 pub mod Spellings
+pub mod Ties
 pub mod Trials
 pub mod UpdateTrials
 pub mod CallTrials

@@ -3,16 +3,19 @@
 use mathlib.Core.List.{List, [], _∷_, _++_}
 use mathlib.Core.Option.{Option, none, some}
 use mathlib.Core.Path.{_≡_}
-use Prim.Native.Nat.{ℕ}
-use Rattle.types.specs.Sizes.{hub}
+use mathlib.Core.Bool.{cond}
+use Prim.Native.Nat.{ℕ, zero, suc}
+use lib.ListN.{length}
+use Rattle.types.specs.Sizes.{hub, tableLength, storeLength}
 use Rattle.types.specs.Answers.{Answer, found, absent, updated, listed, done, refused}
 use Rattle.labels.specs.Labels.{Label}
 use Rattle.trees.specs.Plain.{Call}
 use Rattle.tables.specs.Words.{labelsHeld}
 use Rattle.tables.specs.Written.{Memory}
-use Rattle.tables.specs.Steps.{Walk}
-use Rattle.tables.specs.Outcomes.{Outcome, visitsOf, placesOf, searchOutcome, updateOutcome}
+use Rattle.tables.specs.Steps.{go-left, StepRule, isTie, stepAt, Walk, walkFromRoot}
+use Rattle.tables.specs.Outcomes.{Outcome, visitsOf, placesOf, walkAnswer, searchOutcome, updateOutcome}
 use Rattle.tables.specs.Claims.{Sound, LabelFits, labelIn}
+use Rattle.demands.specs.Ties.{stepsBefore}
 
 -- ---- the contracts
 
@@ -97,3 +100,20 @@ FindsExactly f =
     (table store : List ℕ) (x : Label) → Fair table store x
     → (slot value visits places : ℕ) → f table store x ≡ found slot value visits places
     → labelIn hub (lent table store) slot ≡ x
+
+-- M-106 of document 02: a search by the steps before the request
+abbrev pub SearchesAsBefore : SearchVersion → Type 0
+SearchesAsBefore f =
+    (table store : List ℕ) (x : Label) → Fair table store x
+    → f table store x ≡ walkAnswer (stepsBefore hub table store x)
+
+-- and one with the first line on side successor too: S equal to d, P above d, go left
+abbrev pub stepOnBoth : StepRule
+stepOnBoth x c zero d p s = stepAt x c zero d p s
+stepOnBoth x c (suc side) d p s = cond (isTie d s p) (go-left p s 0) (stepAt x c (suc side) d p s)
+
+-- on any words and bytes of the right lengths, for labels that fit
+abbrev pub TiesOnBoth : SearchVersion → Type 0
+TiesOnBoth f =
+    (table store : List ℕ) (x : Label) → length table ≡ tableLength hub → length store ≡ storeLength hub
+    → LabelFits hub x → f table store x ≡ walkAnswer (walkFromRoot stepOnBoth hub table store x)

@@ -1,18 +1,17 @@
 -- The step at one node, by its turn.
 -- `decide-smaller`, `decide-same`, `decide-larger`: the step after a comparison, by its order.
 -- `compared-row`, `row-inside`: the bytes compared are the label of the slot, which lies within the store.
--- `turn-level`: the turn where the walk has reached the node's place.
 -- `row-left`, `row-right`, `row-compared`: the step at the node, by its turn.  `after-step`: the spot after it.
 use mathlib.Core.Path.{_≡_, refl, _∙_}
+use mathlib.Core.Logic.{_≢_}
 use mathlib.Core.List.{List}
 use mathlib.Core.Bool.{Bool, true, false, cond}
-use Prim.Native.Nat.{ℕ, zero, suc, _+_, _-_, _≤_, compare, Ordering, Ordering·lt, Ordering·eq, Ordering·gt}
-use Prim.Native.Nat.{compare·suc-zero}
+use Prim.Native.Nat.{ℕ, zero, suc, _+_, _-_, _≤_, Ordering, compare·suc-zero}
 use native.Mathlib.Numerals.{add-one}
 use native.Mathlib.Omega.{arith}
-use lib.Dec.{eqb}
+use lib.Dec.{ltb}
 use denote.Ref.{RefT}
-use borrow.Author.Tests.{lt-ltb, le-ltb}
+use borrow.Author.Tests.{lt-ltb, le-ltb, eq-eqb, ne-eqb}
 use Rattle.types.specs.declared.Limits.{Limits}
 use Rattle.types.specs.declared.Row.{Row}
 use Rattle.labels.specs.Labels.{Label, compareFrom}
@@ -21,7 +20,8 @@ use Rattle.compares.specs.declared.Compared.{Compared}
 use Rattle.orders.specs.declared.Order.the-variants.{Smaller, Same, Larger}
 use Rattle.compares.specs.Compares.{comparisonOf}
 use Rattle.tables.specs.Words.{labelAt}
-use Rattle.tables.specs.Steps.{Step, go-left, go-right, stop, compareStep, predecessorStep, successorStep, stepAt}
+use Rattle.tables.specs.Steps.{Step, go-left, go-right, stop, compareStep, predecessorStep, successorStep, isTie}
+use Rattle.tables.specs.Steps.{stepAt}
 use Rattle.nodes.specs.declared.Spot.{Spot}
 use Rattle.nodes.specs.declared.Step as code
 use Rattle.nodes.specs.declared.Turn.{Turn}
@@ -29,7 +29,7 @@ use Rattle.nodes.specs.declared.Turn.the-variants.{Left, Right, Compare}
 use Rattle.tables.proofs.Offsets.{part-within}
 use Rattle.words.specs.Parts.{LabelInside, Shows}
 use Rattle.nodes.specs.Bounds.{AtRow}
-use Rattle.nodes.specs.Nodes.{reachedOn, turnBy, turnOf, rowStep, sonOf, spotAfter}
+use Rattle.nodes.specs.Nodes.{reachedOn, turnOf, rowStep, sonOf, spotAfter}
 
 -- the step after a comparison c that started at place d, by its order
 module _ (p s d : ℕ) (c : Compared) where
@@ -61,63 +61,61 @@ row-inside limits store link row at =
     let bytes = at .bytes in
     record { low = low; inside = omega arith }
 
--- the turn by the order of P or S and the place
-abbrev turnOn : Ordering → Turn → Turn → Turn
-turnOn Ordering·lt below above = below
-turnOn Ordering·eq below above = Compare
-turnOn Ordering·gt below above = above
-
--- the two tests find that order
-turn-by : {m d : ℕ} {o : Ordering} (below above : Turn) → Ordered m d o → turnBy m d below above ≡ turnOn o below above
-turn-by {m} {d} below above (is-lt less) = rw (lt-ltb m d less)
-turn-by {m} {d} below above (is-eq equal) =
-    let low : d ≤ m = omega arith in
-    let high : m ≤ d = omega arith in
-    rw (le-ltb m d low, le-ltb d m high)
-turn-by {m} {d} below above (is-gt more) = let low : d ≤ m = omega arith in rw (le-ltb m d low, lt-ltb d m more)
-
--- where the walk has reached the place, either side compares
-pub turn-level : (side d reached : ℕ) → d ≤ reached → reached ≤ d → Compare ≡ turnOf side d reached
-unfolding turnOf
-turn-level side d reached low high = rw (le-ltb _ _ low, le-ltb _ _ high) (either (eqb side 0))
-  where
-    either : (b : Bool) → Compare ≡ cond b Compare Compare
-    either true = refl
-    either false = refl
-
 -- a turn, taken
 abbrev takenBy : Turn → Step → (p s : ℕ) → Step
 takenBy Left compared p s = go-left p s 0
 takenBy Right compared p s = go-right p s 0
 takenBy Compare compared p s = compared
 
-predecessor-turn : (o : Ordering) (compared : Step) (p s : ℕ)
-    → predecessorStep o compared p s ≡ takenBy (turnOn o Right Left) compared p s
-predecessor-turn Ordering·lt compared p s = refl
-predecessor-turn Ordering·eq compared p s = refl
-predecessor-turn Ordering·gt compared p s = refl
+module _ (d p s : ℕ) (compared : Step) where
+  -- the step by P, at a tie first
+  predecessor-turn : {o : Ordering} → Ordered p d o
+      → cond (isTie d p s) (go-right p s 0) (predecessorStep o compared p s) ≡ takenBy (turnOf 0 d p s) compared p s
+  unfolding turnOf
+  predecessor-turn (is-lt less) =
+      let apart : p ≢ d = λ e. omega arith in
+      let low : p ≤ d = omega arith in
+      rw (ne-eqb p d apart, le-ltb d p low)
+  predecessor-turn (is-eq equal) = rw (eq-eqb p d equal) (go (ltb d s))
+    where
+      go : (b : Bool) → cond b (go-right p s 0) compared ≡ takenBy (cond b Right Compare) compared p s
+      go true = refl
+      go false = refl
+  predecessor-turn (is-gt more) =
+      let apart : p ≢ d = λ e. omega arith in rw (ne-eqb p d apart, lt-ltb d p more)
 
-successor-turn : (o : Ordering) (compared : Step) (p s : ℕ)
-    → successorStep o compared p s ≡ takenBy (turnOn o Left Right) compared p s
-successor-turn Ordering·lt compared p s = refl
-successor-turn Ordering·eq compared p s = refl
-successor-turn Ordering·gt compared p s = refl
+  -- the step by S, which is not above the place where it is the place
+  successor-turn : {o : Ordering} → Ordered s d o → successorStep o compared p s ≡ takenBy (turnOf 1 d s s) compared p s
+  unfolding turnOf
+  successor-turn (is-lt less) =
+      let apart : s ≢ d = λ e. omega arith in
+      let low : s ≤ d = omega arith in
+      rw (ne-eqb s d apart, le-ltb d s low)
+  successor-turn (is-eq equal) = let high : s ≤ d = omega arith in rw (eq-eqb s d equal, le-ltb d s high)
+  successor-turn (is-gt more) =
+      let apart : s ≢ d = λ e. omega arith in rw (ne-eqb s d apart, lt-ltb d s more)
 
 -- a node's step is its turn, taken
 turn-step : (x c : Label) (side d p s : ℕ)
     → stepAt x c side d p s
-    ≡ takenBy (turnOf side d (reachedOn side p s)) (compareStep (compareFrom d x c) d p s) p s
+    ≡ takenBy (turnOf side d (reachedOn side p s) s) (compareStep (compareFrom d x c) d p s) p s
 unfolding turnOf
-turn-step x c zero d p s =
-    rw (turn-by {m = p} {d = d} Right Left (ordered p d))
-    (predecessor-turn (compare p d) (compareStep (compareFrom d x c) d p s) p s)
+turn-step x c zero d p s = predecessor-turn d p s (compareStep (compareFrom d x c) d p s) (ordered p d)
 turn-step x c (suc side) d p s =
-    rw (compare·suc-zero, turn-by {m = s} {d = d} Left Right (ordered s d))
-    (successor-turn (compare s d) (compareStep (compareFrom d x c) d p s) p s)
+    rw compare·suc-zero (successor-turn d p s (compareStep (compareFrom d x c) d p s) (ordered s d))
+
+-- the turn by the number that each side goes by
+pub turn-by-predecessor : (side d p s : ℕ) (t : Turn) → side ≡ 0 → t ≡ turnOf side d p s
+    → t ≡ turnOf side d (reachedOn side p s) s
+turn-by-predecessor side d p s t first so = rw (eq-eqb side 0 first) so
+
+pub turn-by-successor : (side d p s : ℕ) (t : Turn) → side ≢ 0 → t ≡ turnOf side d s s
+    → t ≡ turnOf side d (reachedOn side p s) s
+turn-by-successor side d p s t other so = rw (ne-eqb side 0 other) so
 
 -- the step at the node in a slot, whose row is read and whose turn is t
 module _ (limits : Limits) (store : List ℕ) (x : Label) (link : ℕ) (row : Row) (p s reached : ℕ) (t : Turn)
-    (goes : reached ≡ reachedOn (row .side) p s) (turns : t ≡ turnOf (row .side) (row .place) reached) where
+    (goes : reached ≡ reachedOn (row .side) p s) (turns : t ≡ turnOf (row .side) (row .place) reached s) where
   abbrev here : Step
   here = rowStep limits store x link row p s
 

@@ -27,13 +27,12 @@ haltsAt limits table link remaining =
 abbrev pub reachedOn : (side p s : ℕ) → ℕ
 reachedOn side p s = cond (eqb side 0) p s
 
--- reached below d: the first; above d: the second; equal: compare
-abbrev pub turnBy : (reached d : ℕ) → Turn → Turn → Turn
-turnBy reached d below above = cond (ltb reached d) below (cond (ltb d reached) above Compare)
-
--- where a node with this side and place sends the walk, which has reached the number that the side goes by
-unfoldable pub turnOf : (side d reached : ℕ) → Turn
-turnOf side d reached = cond (eqb side 0) (turnBy reached d Right Left) (turnBy reached d Left Right)
+-- where a node with this side and place d sends the walk, which has reached the number that the side goes by. Where
+-- that is d, S is above d only on side predecessor: side successor goes by S itself.
+unfoldable pub turnOf : (side d reached s : ℕ) → Turn
+turnOf side d reached s =
+    cond (eqb reached d) (cond (ltb d s) Right Compare)
+    (cond (eqb side 0) (cond (ltb d reached) Left Right) (cond (ltb d reached) Right Left))
 
 abbrev pub stepBy : (found right : Bool) → (p s examined : ℕ) → definition.Step
 stepBy true right p s examined = stop examined

@@ -15,7 +15,7 @@ ghost use Rattle.compares.specs.Compares.{comparisonOf};
 ghost use Rattle.tables.specs.Words.{rowAt, labelAt};
 ghost use Rattle.tables.specs.Steps.{isBad, compareStep};
 ghost use Rattle.words.specs.Rows.{HasRow};
-ghost use Rattle.nodes.specs.Nodes.{numberBefore, haltsAt, reachedOn, stepOf, rowStep, sonOf, spotAfter};
+ghost use Rattle.nodes.specs.Nodes.{numberBefore, haltsAt, reachedOn, turnOf, stepOf, rowStep, sonOf, spotAfter};
 ghost use Rattle.nodes.specs.Bounds.{AtRow, AtPlace, CanTest, CanStep, Onward};
 
 // Where the search of an update stands: the next link, the numbers P and S of the search steps, and the counts so far.
@@ -137,11 +137,16 @@ fn decide(p: usize, s: usize, d: usize, c: Compared) -> Step
     }
 }
 
-// The number that a side goes by: P for predecessor, S for successor.
-fn reached(side: u16, spot: Spot) -> usize
-    ensures { λ r. ⌜ r ≡ reachedOn side (spot .p) (spot .s) ⌝ }
+// Where the node with this row sends the search: side predecessor goes by P, side successor by S.
+fn turn_at(spot: Spot, row: Row) -> Turn
+    ensures { λ r. ⌜ r ≡ turnOf (row .side) (row .place) (reachedOn (row .side) (spot .p) (spot .s)) (spot .s) ⌝ }
 {
-    if side == 0 { spot.p } else { spot.s }
+    let side = row.side as usize;
+    let d = row.place as usize;
+    if side == 0 {
+        return turning::turn(side, d, spot.p, spot.s);
+    }
+    turning::turn(side, d, spot.s, spot.s)
 }
 
 // The whole step at a node with this row, where the walk is not broken.
@@ -151,8 +156,7 @@ pub fn visit(limits: Limits, store: &[u8], label: &[u8], spot: Spot, row: Row) -
         stepOf r ≡ rowStep limits (now (store .entry)) (now (label .entry)) (spot .link) row (spot .p) (spot .s) ⌝ }
     ensures { λ r. ⌜ r .examined ≤ 4097 ⌝ }
 {
-    let d = row.place as usize;
-    let t = turning::turn(row.side as usize, d, reached(row.side, spot));
+    let t = turn_at(spot, row);
     match t {
         Turn::Left => Step {
             found: false,
@@ -170,7 +174,7 @@ pub fn visit(limits: Limits, store: &[u8], label: &[u8], spot: Spot, row: Row) -
         },
         Turn::Compare => {
             let c = compare_by_table(limits, store, label, spot.link, row);
-            decide(spot.p, spot.s, d, c)
+            decide(spot.p, spot.s, row.place as usize, c)
         }
     }
 }

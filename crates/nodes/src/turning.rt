@@ -4,20 +4,24 @@ ghost use mathlib.Core.Path.{_≡_};
 ghost use Rattle.nodes.specs.Nodes.{turnOf};
 
 // Where a node with this side and place d sends the walk, which has reached P or S, the number that the side goes by.
-pub fn turn(side: usize, d: usize, reached: usize) -> Turn
-    ensures { λ r. ⌜ r ≡ turnOf side d reached ⌝ }
+// With P at d and S above it the sought label is known to be larger. Side successor compares: there d is S.
+pub fn turn(side: usize, d: usize, reached: usize, s: usize) -> Turn
+    ensures { λ r. ⌜ r ≡ turnOf side d reached s ⌝ }
 {
-    if reached < d {
-        if side == 0 {
+    if reached == d {
+        if d < s {
             return Turn::Right;
         }
-        return Turn::Left;
+        return Turn::Compare;
     }
-    if d < reached {
-        if side == 0 {
+    if side == 0 {
+        if d < reached {
             return Turn::Left;
         }
         return Turn::Right;
     }
-    Turn::Compare
+    if d < reached {
+        return Turn::Right;
+    }
+    Turn::Left
 }

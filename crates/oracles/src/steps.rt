@@ -91,6 +91,9 @@ fn go(image: &Image, at: State, son: usize) -> State {
 fn visit(image: &Image, label: &[u8], at: State) -> State {
     let place = memory::field(image, at.link, memory::PLACE);
     if memory::field(image, at.link, memory::SIDE) == 0 {
+        if (at.p == place) & (at.s > place) {
+            return go(image, at, memory::RIGHT);
+        }
         if at.p < place {
             return go(image, at, memory::RIGHT);
         }

@@ -10,8 +10,9 @@ use std::num::wrapping_sub_usize;
 // The kinds of change: one word, two or three at once; one byte; two rows exchanged; a link between the tree and the
 // freed slots; a link back to a node above, or to a freed slot earlier in the chain; a path on one side alone, of as
 // many nodes as a walk may visit, one less or one more; labels whose letters were told apart by their case, as a table
-// holds them that was written when capital letters counted as bytes like any other.
-pub const KINDS: usize = 9;
+// holds them that was written when capital letters counted as bytes like any other; a small place and a side of a node,
+// so that walks take every line of the search steps.
+pub const KINDS: usize = 10;
 
 pub const BYTE: usize = 3;
 
@@ -24,6 +25,8 @@ pub const CYCLE: usize = 6;
 pub const PATH: usize = 7;
 
 pub const OLD: usize = 8;
+
+pub const FIELDS: usize = 9;
 
 // An entry of the image, and what is written there.
 struct Written {
@@ -80,6 +83,7 @@ fn writes(image: &Image, kind: usize) -> usize {
         0 => 1,
         1 => 2,
         2 => 3,
+        FIELDS => 2,
         ROWS => 16,
         PATH => 4 * (memory::entry(image, memory::DEPTH) % 65) + 5,
         OLD => sizes::bytes(slots(image), memory::entry(image, memory::WIDTH)),
@@ -106,6 +110,7 @@ fn write(image: &Image, kind: usize, seed: u64, j: usize) -> Written {
         CYCLE => cycle_write(image, seed),
         PATH => path_write(image, seed, j),
         OLD => old_write(image, seed, j),
+        FIELDS => fields_write(image, seed, j),
         _ => word_write(image, numbers::mixed_seed(seed, j)),
     }
 }
@@ -288,6 +293,21 @@ fn next_node(node: usize, end: usize) -> usize {
         return wrapping_add_usize(node, 1);
     }
     0
+}
+
+// The place, from 1 to 3, and the side of a node that up to seven links lead to.
+fn fields_write(image: &Image, seed: u64, j: usize) -> Written {
+    let steps = numbers::next(seed);
+    let slot = walked(image, memory::word(image, memory::ROOT), seed, steps);
+    let place = numbers::next(steps);
+    if j == 0 {
+        return slot_write(
+            slot,
+            memory::PLACE,
+            wrapping_add_usize(numbers::below(place, 3), 1),
+        );
+    }
+    slot_write(slot, memory::SIDE, numbers::below(numbers::next(place), 2))
 }
 
 // Byte `j` of the store becomes the one that stands for it.

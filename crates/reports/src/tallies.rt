@@ -110,7 +110,7 @@ pub fn print_damage(page: bool, shape: usize, kind: usize, tally: Tally) {
     print(
         page,
         shape,
-        b", one word|, two words|, three words|, one byte|, two rows|, freed slots|, cycles|, paths|, old",
+        b", one word|, two words|, three words|, one byte|, two rows|, freed slots|, cycles|, paths|, old|, fields",
         kind,
         b": changes 8, still sound 9, calls 0, mismatches 7",
         tally,

@@ -79,7 +79,7 @@ module _ (limits : Limits) (table store : List ℕ) (x : Label) where
       (steps limits table store x remaining (linkOf t) (w .p) (w .s)) w
       (traceFrom limits table store x remaining w below above)
   leads-from empty remaining p q w below above lower upper here deep between represented fits sought =
-      leads-same (steps-at-missing limits table store x remaining (w .p) (w .s))
+      leads-same (steps-at-missing stepAt limits table store x remaining (w .p) (w .s))
       (trace-missing limits table store x w below above remaining here)
       (record {
         path = refl;
@@ -97,7 +97,7 @@ module _ (limits : Limits) (table store : List ℕ) (x : Label) where
   leads-from (node l e r) (suc remaining) p q w below above lower upper here deep between represented fits sought =
       let node-held = represented .0 in
       let beside = neighbour-in (w .link) (e .label) (omega (arith, node-held .low)) (label-here node-held w here) in
-      leads-same (steps-at-node limits table store x node-held remaining (w .p) (w .s))
+      leads-same (steps-at-node stepAt limits table store x node-held remaining (w .p) (w .s))
       (trace-at node-held w here remaining below above)
       (leads-by e w (nodeRow p l e r q) below above (traceFrom limits table store x remaining)
       (steps limits table store x remaining (linkOf l)) (steps limits table store x remaining (linkOf r))

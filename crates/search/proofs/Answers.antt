@@ -20,7 +20,8 @@ use Rattle.types.specs.Answers.{Answer, refused, refusalNumber, searchSays}
 use Rattle.labels.specs.Labels.{Label}
 use Rattle.trees.specs.Trees.{Entry}
 use Rattle.tables.specs.Words.{rootLink, rowAt, entryAt}
-use Rattle.tables.specs.Steps.{stop, isBad, Walk, broken, ended, visitThen, walkBy, missing, steps, searchSteps}
+use Rattle.tables.specs.Steps.{stop, isBad, Walk, broken, ended, visitThen, walkBy, missing, stepsBy, steps}
+use Rattle.tables.specs.Steps.{searchSteps}
 use Rattle.tables.specs.Outcomes.{pass, ofMemory, ofLabel, walkAnswer, searchOutcome}
 use Rattle.lengths.specs.declared.Early.{Early}
 use Rattle.lengths.specs.declared.Early.the-variants.{Pass, Refused}
@@ -70,7 +71,7 @@ module _ (limits : Limits) (table store : List ℕ) (x : Label) where
   steps-broken remaining zero p s some bad = absurd (some refl)
   steps-broken zero (suc k) p s some bad = refl
   steps-broken (suc remaining) (suc k) p s some bad =
-      let room : suc remaining ≢ 0 = λ e. omega arith in rw (rw (ne-eqb _ _ room) at bad, steps)
+      let room : suc remaining ≢ 0 = λ e. omega arith in rw (rw (ne-eqb _ _ room) at bad, stepsBy)
 
   -- any other node takes its step
   steps-node : (remaining link p s : ℕ) → haltsAt limits table link remaining ≡ false
@@ -85,7 +86,7 @@ module _ (limits : Limits) (table store : List ℕ) (x : Label) where
   steps-node (suc remaining) (suc k) p s fine =
       let e : suc remaining - 1 ≡ remaining = omega arith in
       let passed = rw (ne-eqb (suc k) 0 (λ z. omega arith), ne-eqb (suc remaining) 0 (λ z. omega arith)) at fine in
-      rw (passed, steps, e)
+      rw (passed, stepsBy, e)
 
   -- the walk from a node on goes into the son that its step takes
   answer-after-onward : (remaining visits places p s examined : ℕ) (row : Row) (right : Bool) (e : Entry)

@@ -50,7 +50,7 @@ went-as other others sum a b c went = rw (a, b, c) went
 -- at a node with this row, whose turn is t
 module _ (limits : Limits) (store : List ℕ) (x : Label) (link : ℕ) (row : Row) (places : ℕ) (ends : List ℕ) (t : Turn)
     (at : AtRow limits store link row) (two : length ends ≡ 2)
-    (turns : t ≡ turnOf (row .side) (row .place) (getD ends (row .side) 0)) where
+    (turns : t ≡ turnOf (row .side) (row .place) (getD ends (row .side) 0) (getD ends 1 0)) where
   abbrev p : ℕ
   p = getD ends 0 0
 

@@ -41,7 +41,7 @@ fn walk(limits: Limits, table: &[u16], store: &[u8], label: &[u8], root: usize) 
         let row = words::read_row(table, link);
         let side = row.side as usize;
         let d = row.place as usize;
-        let turn = nodes::turning::turn(side, d, ends[side]);
+        let turn = nodes::turning::turn(side, d, ends[side], ends[1]);
         let right = match turn {
             Turn::Left => false,
             Turn::Right => true,
@@ -57,10 +57,12 @@ fn walk(limits: Limits, table: &[u16], store: &[u8], label: &[u8], root: usize) 
                     }
                     Order::Same => {
                         let found = words::read_row(table, link);
+                        let value = found.value;
+                        let visits = limits.depth - remaining + 1;
                         return SearchAnswer::Found {
                             slot: link,
-                            value: found.value,
-                            visits: limits.depth - remaining + 1,
+                            value,
+                            visits,
                             places,
                         };
                     }

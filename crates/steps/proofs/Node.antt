@@ -1,11 +1,15 @@
 -- The step of a search at a node between its neighbours.
 -- `Goes`: a step goes as the full comparison does, into a window that has the sought label, and examines few places.
 -- `step-goes`: the step at each node does.
-use mathlib.Core.Bool.{Bool, cond}
-use mathlib.Core.Path.{_≡_}
-use Prim.Native.Nat.{ℕ, suc, _+_, _≤_, max}
+-- `Tied`, `tied-view`: whether P is the node's place and S above it.
+-- `larger-of-tie`: there the sought label is larger.
+use mathlib.Core.Bool.{Bool, true, false, _&&_, cond}
+use mathlib.Core.Path.{_≡_, refl}
+use Prim.Native.Nat.{ℕ, suc, _+_, _≤_, _<_, max}
 use native.Mathlib.Omega.{arith}
+use lib.Dec.{eqb, ltb}
 use lib.ListN.{length}
+use borrow.Author.Tests.{eqb-true, ltb-true}
 use Rattle.labels.specs.Labels.{Label, Comparison, smaller, same, larger, compareLabels, compareFrom}
 use Rattle.labels.specs.Labels.{Finds, is-smaller, is-same, is-larger}
 use Rattle.labels.specs.Neighbours.{Neighbour, held, difference}
@@ -15,8 +19,9 @@ use Rattle.labels.proofs.Compare.{compares-by-places}
 use Rattle.labels.proofs.Difference.{Before, below-is-before, difference-is}
 use Rattle.labels.proofs.Late.{compare-late}
 use Rattle.tables.specs.Prefix.{placeWithin, sideWithin}
-use Rattle.tables.specs.Steps.{Step, go-left, go-right, stop, stepAt}
+use Rattle.tables.specs.Steps.{Step, go-left, go-right, stop, linesAt, isTie, stepAt}
 use Rattle.steps.proofs.Places.{Lies, Fits, fits-left, fits-stop, fits-right, fits-on-predecessor-side}
+use Rattle.steps.proofs.Places.{larger-at-tie, fits-at-tie}
 use Rattle.steps.proofs.Mirror.{fits-on-successor-side}
 use Rattle.steps.proofs.Window.{placeBelow, placeAbove, Sought, place-below-within, place-above-within}
 use Rattle.steps.proofs.Window.{lies-of-finds}
@@ -34,6 +39,19 @@ pub data Goes (p : Neighbour) (x c : Label) (s : Neighbour) (P S : ℕ) : Compar
 -- the difference place of two labels is at least 1
 raised-place : {x y : Label} {i : ℕ} → Below (held x) (held y) i → i ≡ max 1 (difference (held x) (held y))
 raised-place {x} {y} below = omega (arith, difference-is (held x) (held y) below, place-positive below)
+
+-- whether P is the place d and S above it
+pub data Tied (d P S : ℕ) : Bool → Type 0 where
+  tied : P ≡ d → d < S → Tied d P S true
+  not-tied : Tied d P S false
+
+pub tied-view : (d P S : ℕ) → Tied d P S (isTie d P S)
+tied-view d P S = go (eqb P d) (ltb d S) refl refl
+  where
+    go : (level over : Bool) → eqb P d ≡ level → ltb d S ≡ over → Tied d P S (level && over)
+    go true true e f = tied (eqb-true P d e) (ltb-true d S f)
+    go true false e f = not-tied
+    go false over e f = not-tied
 
 module _ {p s : Neighbour} {x c : Label} {P S : ℕ} (sought : Sought p x s P S) where
   -- a step that fits goes into a window that has x
@@ -54,16 +72,36 @@ module _ {p s : Neighbour} {x c : Label} {P S : ℕ} (sought : Sought p x s P S)
     lies : Lies (placeBelow p x) (placeAbove x s) (placeBelow p c) (placeAbove c s) (suc (length x)) (compareLabels x c)
     lies = lies-of-finds c-above c-below (sought .above) (sought .below) (compares-by-places x c)
 
+    -- where the predecessor's difference place is at least as large
+    module _ (tie : difference (held c) s ≤ difference p (held c)) where
+      abbrev d : ℕ
+      d = placeBelow p c
+
+      -- at a tie the sought label is larger, by a difference at P
+      pub larger-of-tie : P ≡ d → d < S → compareLabels x c ≡ larger P
+      larger-of-tie equal above =
+          larger-at-tie _ _ d (placeAbove c s) P S _ (sought .told)
+          (place-below-within p x) (place-above-within x s) (omega arith) lies equal above
+
+      -- the step by P
+      fits-by-predecessor : {b : Bool} → Tied d P S b
+          → Fits (placeBelow p x) (placeAbove x s) P S (suc (length x)) (compareLabels x c)
+          (cond b (go-right P S 0) (linesAt x c 0 d P S))
+      fits-by-predecessor (tied equal above) =
+          fits-at-tie _ _ d (placeAbove c s) P S _ (sought .told)
+          (place-below-within p x) (place-above-within x s) (omega arith) lies equal above
+      fits-by-predecessor not-tied =
+          fits-on-predecessor-side _ _ d (placeAbove c s) P S _ (sought .told)
+          (place-below-within p x) (place-above-within x s) (compareFrom d x c) (omega arith) lies
+          (ordered P d) (compare-late d x c (omega arith))
+
     -- the step on either side, by which of the node's difference places is the larger
     fits-by-side : {b : Bool} → Leb (difference (held c) s) (difference p (held c)) b
         → Fits (placeBelow p x) (placeAbove x s) P S (suc (length x)) (compareLabels x c)
         (stepAt x c (cond b 0 1) (placeWithin p c s) P S)
     fits-by-side (le-yes tie) =
         let place : placeWithin p c s ≡ placeBelow p c = omega arith in
-        rw place
-        (fits-on-predecessor-side _ _ (placeBelow p c) (placeAbove c s) P S _ (sought .told)
-        (place-below-within p x) (place-above-within x s) (compareFrom (placeBelow p c) x c) (omega arith) lies
-        (ordered P (placeBelow p c)) (compare-late (placeBelow p c) x c (omega arith)))
+        rw place (fits-by-predecessor tie (tied-view (placeBelow p c) P S))
     fits-by-side (le-no more) =
         let place : placeWithin p c s ≡ placeAbove c s = omega arith in
         rw place

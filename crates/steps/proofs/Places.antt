@@ -4,7 +4,9 @@
 -- `Invariant`: what P and S tell of j and k.  `Lies`: how j, k, dp and ds lie, by what a comparison finds.
 -- `Fits`: a step that goes as the comparison says, keeps the invariant, and examines few places.
 -- `fits-on-predecessor-side`: the step at a node of side predecessor fits.
-use mathlib.Core.Path.{_≡_}
+-- `larger-at-tie`, `fits-at-tie`: where P is the node's place and S is above it, the sought label is the larger, by a
+-- difference at P, and going right fits.
+use mathlib.Core.Path.{_≡_, ap}
 use Prim.Native.Nat.{ℕ, suc, _+_, _-_, _≤_, _<_, min, max, Ordering}
 use native.Mathlib.Omega.{arith}
 use Rattle.labels.specs.Labels.{Comparison, smaller, same, larger, placeOf}
@@ -59,3 +61,17 @@ module _ (j k dp ds P S end : ℕ) (holds : Invariant j k P S) (j-ends : j ≤ e
       rw (late (omega arith))
       (fits-right i i S (suc i - dp) (omega arith) (examined-within i dp _ _ (omega arith) (omega arith)))
   fits-on-predecessor-side q tie (lies-larger i first j-is ds-is) (is-gt more) late = absurd (omega arith)
+
+  -- where P is the node's place, that with its predecessor, and S is above it, the comparison would find the sought
+  -- label larger at P
+  pub larger-at-tie : {r : Comparison} → ds ≤ dp → Lies j k dp ds end r → P ≡ dp → dp < S → r ≡ larger P
+  larger-at-tie tie (lies-smaller i first dp-is k-is) equal above = absurd (omega arith)
+  larger-at-tie tie (lies-same i j-is k-is i-is) equal above = absurd (omega arith)
+  larger-at-tie tie (lies-larger i first j-is ds-is) equal above = ap larger (omega arith)
+
+  -- so going right fits there, with P and S as they are
+  pub fits-at-tie : {r : Comparison} → ds ≤ dp → Lies j k dp ds end r → P ≡ dp → dp < S
+      → Fits j k P S end r (go-right P S 0)
+  fits-at-tie tie (lies-smaller i first dp-is k-is) equal above = absurd (omega arith)
+  fits-at-tie tie (lies-same i j-is k-is i-is) equal above = absurd (omega arith)
+  fits-at-tie tie (lies-larger i first j-is ds-is) equal above = fits-right i P S 0 (omega arith) (omega arith)

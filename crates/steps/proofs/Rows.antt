@@ -1,6 +1,7 @@
 -- The search steps at a node that stands in the rows of a table and the parts of a store.
 -- `row-not-bad`: the row of such a node breaks no walk.
--- `steps-at-node`: the walk from its link is the walk by the step at its label, place and side, into its sons.
+-- `steps-at-node`: the walk from its link, by any steps, is the walk by the step at its label, place and side, into its
+-- sons.
 use mathlib.Core.Bool.{Bool, true, false, cond}
 use mathlib.Core.List.{List}
 use mathlib.Core.Path.{_≡_, _∙_}
@@ -17,7 +18,7 @@ use Rattle.trees.specs.Trees.{Entry, Tree}
 use Rattle.tables.specs.Words.{rowAt, entryAt}
 use Rattle.tables.specs.Prefix.{placeWithin, sideWithin, sideBy}
 use Rattle.tables.specs.Written.{linkOf, nodeRow}
-use Rattle.tables.specs.Steps.{stepAt, isBad, walkBy, steps}
+use Rattle.tables.specs.Steps.{StepRule, isBad, walkBy, stepsBy}
 use Rattle.tables.proofs.Represents.{NodeHeld}
 
 -- a side is 0 or 1
@@ -43,22 +44,22 @@ row-not-bad limits p l e r s some short =
           (side-within (difference p (held (e .label))) (difference (held (e .label)) s)),
     )
 
-module _ (limits : Limits) (table store : List ℕ) (x : Label) where
+module _ (step : StepRule) (limits : Limits) (table store : List ℕ) (x : Label) where
   -- the walk from a slot whose row is no bad one
   steps-at-slot : (left k P S : ℕ) → 1 ≤ k → k ≤ limits .slots → isBad limits (rowAt table k) ≡ false
-      → steps limits table store x (suc left) k P S
-      ≡ walkBy (stepAt x (entryAt limits table store k .label) (rowAt table k .side) (rowAt table k .place) P S)
+      → stepsBy step limits table store x (suc left) k P S
+      ≡ walkBy (step x (entryAt limits table store k .label) (rowAt table k .side) (rowAt table k .place) P S)
       (entryAt limits table store k)
-      (steps limits table store x left (rowAt table k .left))
-      (steps limits table store x left (rowAt table k .right))
+      (stepsBy step limits table store x left (rowAt table k .left))
+      (stepsBy step limits table store x left (rowAt table k .right))
   steps-at-slot left zero P S low high good = absurd (omega arith)
-  steps-at-slot left (suc k) P S low high good = rw (le-ltb (limits .slots) (suc k) high, good, steps)
+  steps-at-slot left (suc k) P S low high good = rw (le-ltb (limits .slots) (suc k) high, good, stepsBy)
 
   module _ {p s : Neighbour} {l r : Tree} {e : Entry} (node-held : NodeHeld limits table store p l e r s) where
     -- the walk from a node
-    pub steps-at-node : (left P S : ℕ) → steps limits table store x (suc left) (e .slot) P S
-        ≡ walkBy (stepAt x (e .label) (sideWithin p (e .label) s) (placeWithin p (e .label) s) P S) e
-        (steps limits table store x left (linkOf l)) (steps limits table store x left (linkOf r))
+    pub steps-at-node : (left P S : ℕ) → stepsBy step limits table store x (suc left) (e .slot) P S
+        ≡ walkBy (step x (e .label) (sideWithin p (e .label) s) (placeWithin p (e .label) s) P S) e
+        (stepsBy step limits table store x left (linkOf l)) (stepsBy step limits table store x left (linkOf r))
     steps-at-node left P S =
         steps-at-slot left (e .slot) P S (node-held .low) (node-held .high)
         (rw (node-held .row) (row-not-bad limits p l e r s (node-held .some) (node-held .short)))

@@ -17,7 +17,8 @@ use Rattle.trees.specs.Heights.{height}
 use Rattle.trees.proofs.Sorted.{Between}
 use Rattle.tables.specs.Words.{rootLink}
 use Rattle.tables.specs.Written.{linkOf}
-use Rattle.tables.specs.Steps.{Step, Walk, ended, visitThen, walkBy, missing, steps, searchSteps}
+use Rattle.tables.specs.Steps.{Step, StepRule, stepAt, Walk, ended, visitThen, walkBy, missing}
+use Rattle.tables.specs.Steps.{stepsBy, steps, searchSteps}
 use Rattle.tables.specs.Outcomes.{placesOf}
 use Rattle.tables.proofs.Represents.{Represents}
 use Rattle.steps.proofs.Window.{Sought, sought-first, numbers-within}
@@ -32,10 +33,10 @@ pub record Agrees (x : Label) (P S : ℕ) (walk : Walk) (search : Search) : Type
   pub few : places + max P S ≤ length (search .visited) + suc (length x)
 
 -- a walk at a missing link is over
-pub steps-at-missing : (limits : Limits) (table store : List ℕ) (x : Label) (left P S : ℕ)
-    → steps limits table store x left 0 P S ≡ missing
-steps-at-missing limits table store x zero P S = refl
-steps-at-missing limits table store x (suc left) P S = refl
+pub steps-at-missing : (step : StepRule) (limits : Limits) (table store : List ℕ)
+    (x : Label) (left P S : ℕ) → stepsBy step limits table store x left 0 P S ≡ missing
+steps-at-missing step limits table store x zero P S = refl
+steps-at-missing step limits table store x (suc left) P S = refl
 
 -- a walk that visits a node first agrees with a search that does, if all places but one that it examines there raise
 -- the larger of P and S
@@ -81,10 +82,10 @@ module _ (limits : Limits) (table store : List ℕ) (x : Label) where
       → Represents limits table store p s t → height t ≤ left → Sought p x s P S
       → Agrees x P S (steps limits table store x left (linkOf t) P S) (fullSearch x t)
   steps-agree empty left p s P S between represented fits sought =
-      rw (steps-at-missing limits table store x left P S) (over-agrees x absent P S (numbers-within sought))
+      rw (steps-at-missing stepAt limits table store x left P S) (over-agrees x absent P S (numbers-within sought))
   steps-agree (node l e r) zero p s P S between represented fits sought = absurd (omega arith)
   steps-agree (node l e r) (suc left) p s P S between represented fits sought =
-      rw (steps-at-node limits table store x (represented .0) left P S)
+      rw (steps-at-node stepAt limits table store x (represented .0) left P S)
       (walk-agrees e (steps limits table store x left (linkOf l)) (steps limits table store x left (linkOf r))
       (fullSearch x l) (fullSearch x r)
       (λ P' S'. steps-agree l left p (held (e .label)) P' S' (between .on-left) (represented .1) (omega arith))

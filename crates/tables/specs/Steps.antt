@@ -1,6 +1,6 @@
--- 'The search steps' of document 01, over a table and a store of any content.
+-- 'The search steps' of document 01, with the line of M-106 of document 02, over a table and a store of any content.
 use mathlib.Core.List.{List, []}
-use mathlib.Core.Bool.{Bool, true, false, _||_}
+use mathlib.Core.Bool.{Bool, true, false, _&&_, _||_, cond}
 use Prim.Native.Nat.{ℕ, zero, suc, _+_, _-_, compare, Ordering, Ordering·lt, Ordering·eq, Ordering·gt}
 use lib.Dec.{eqb, ltb}
 use Rattle.types.specs.declared.Limits.{Limits}
@@ -36,10 +36,26 @@ successorStep Ordering·lt compared p s = go-left p s 0
 successorStep Ordering·gt compared p s = go-right p s 0
 successorStep Ordering·eq compared p s = compared
 
--- the step for the sought label x at a node with label c
-abbrev pub stepAt : (x c : Label) (side d p s : ℕ) → Step
-stepAt x c zero d p s = predecessorStep (compare p d) (compareStep (compareFrom d x c) d p s) p s
-stepAt x c (suc side) d p s = successorStep (compare s d) (compareStep (compareFrom d x c) d p s) p s
+-- which step is made for the sought label x at a node with label c
+abbrev pub StepRule : Type 0
+StepRule = (x c : Label) (side d p s : ℕ) → Step
+
+-- the lines of document 01
+abbrev pub linesAt : StepRule
+linesAt x c zero d p s = predecessorStep (compare p d) (compareStep (compareFrom d x c) d p s) p s
+linesAt x c (suc side) d p s = successorStep (compare s d) (compareStep (compareFrom d x c) d p s) p s
+
+-- M-106 of document 02: "P may equal d while S is above d."
+abbrev pub isTie : (d p s : ℕ) → Bool
+isTie d p s = eqb p d && ltb d s
+
+-- the search steps: "Put that remark first: side predecessor, P equal to d, S above d, go right and examine nothing."
+-- The remark, of document 004 in its section on strings, where c "differs at the same digit q with p and s": "If ..
+-- x_s > x_p = q, then we know .. that x is greater than c .. without comparing any digits, and without updating xp nor
+-- xs."
+abbrev pub stepAt : StepRule
+stepAt x c zero d p s = cond (isTie d p s) (go-right p s 0) (linesAt x c zero d p s)
+stepAt x c (suc side) d p s = linesAt x c (suc side) d p s
 
 -- "the walk is broken if .. its length is 0 or above 64, its place is 0 or above its length plus 1, or its side is
 -- above 1"
@@ -69,23 +85,30 @@ walkBy (stop examined) e toLeft toRight = visitThen e examined (ended (record { 
 abbrev pub missing : Walk
 missing = ended (record { visited = []; result = absent }) 0
 
--- the walk at a link, with so many nodes left to visit: broken "if its link is above 512, it would be the 13th node",
--- or its row is bad
-abbrev pub steps : Limits → (table store : List ℕ) → Label → (left link p s : ℕ) → Walk
-steps limits table store x zero zero p s = missing
-steps limits table store x zero (suc k) p s = broken
-steps limits table store x (suc left) zero p s = missing
-steps limits table store x (suc left) (suc k) p s =
+-- the walk at a link by such steps, with so many nodes left to visit: broken "if its link is above 512, it would be the
+-- 13th node", or its row is bad
+abbrev pub stepsBy : StepRule → Limits → (table store : List ℕ) → Label → (left link p s : ℕ) → Walk
+stepsBy step limits table store x zero zero p s = missing
+stepsBy step limits table store x zero (suc k) p s = broken
+stepsBy step limits table store x (suc left) zero p s = missing
+stepsBy step limits table store x (suc left) (suc k) p s =
     elim (ltb (limits .slots) (suc k) || isBad limits (rowAt table (suc k))) [
       | true ↦ broken
       | false ↦ walkBy
-          (stepAt x (entryAt limits table store (suc k) .label) (rowAt table (suc k) .side)
+          (step x (entryAt limits table store (suc k) .label) (rowAt table (suc k) .side)
           (rowAt table (suc k) .place) p s)
           (entryAt limits table store (suc k))
-          (steps limits table store x left (rowAt table (suc k) .left))
-          (steps limits table store x left (rowAt table (suc k) .right))
+          (stepsBy step limits table store x left (rowAt table (suc k) .left))
+          (stepsBy step limits table store x left (rowAt table (suc k) .right))
     ]
 
--- "Two numbers, P and S, start at 1."
+-- the walk from the root by such steps: "Two numbers, P and S, start at 1."
+abbrev pub walkFromRoot : StepRule → Limits → (table store : List ℕ) → Label → Walk
+walkFromRoot step limits table store x = stepsBy step limits table store x (limits .depth) (rootLink table) 1 1
+
+-- both by the search steps
+abbrev pub steps : Limits → (table store : List ℕ) → Label → (left link p s : ℕ) → Walk
+steps = stepsBy stepAt
+
 unfoldable pub searchSteps : Limits → (table store : List ℕ) → Label → Walk
-searchSteps limits table store x = steps limits table store x (limits .depth) (rootLink table) 1 1
+searchSteps = walkFromRoot stepAt

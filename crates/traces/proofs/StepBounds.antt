@@ -2,6 +2,7 @@
 -- `StepWithin`: P and S after it and the places that it examined are at most m.
 -- `node-step-within`: so with m one more than the longest label.
 use mathlib.Core.List.{List}
+use mathlib.Core.Bool.{Bool, true, false, cond}
 use Prim.Native.Nat.{ℕ, zero, suc, _+_, _-_, _≤_, compare, Ordering, Ordering·lt, Ordering·eq, Ordering·gt}
 use native.Mathlib.Omega.{arith}
 use lib.ListN.{length, drop, length-take}
@@ -9,7 +10,8 @@ use Rattle.types.specs.declared.Limits.{Limits}
 use Rattle.labels.specs.Labels.{Label, Comparison, smaller, same, larger, compareFrom, placeOf}
 use Rattle.labels.proofs.Ends.{ends-from}
 use Rattle.tables.specs.Words.{rowAt, labelAt, partStart}
-use Rattle.tables.specs.Steps.{Step, go-left, go-right, stop, compareStep, predecessorStep, successorStep, stepAt}
+use Rattle.tables.specs.Steps.{Step, go-left, go-right, stop, compareStep, predecessorStep, successorStep, isTie}
+use Rattle.tables.specs.Steps.{stepAt}
 use Rattle.nodes.specs.declared.Spot.{Spot}
 use Rattle.nodes.specs.Nodes.{rowStep, nodeStep}
 use Rattle.nodes.specs.Bounds.{GoodRow}
@@ -40,11 +42,17 @@ module _ (p s m : ℕ) (p-within : p ≤ m) (s-within : s ≤ m) where
   by-successor Ordering·eq within = within
   by-successor Ordering·gt within = right-within p s 0 p-within s-within (omega arith)
 
+  -- the step at a tie, or by the other lines
+  by-tie : (b : Bool) {step : Step} → StepWithin m step → StepWithin m (cond b (go-right p s 0) step)
+  by-tie true within = right-within p s 0 p-within s-within (omega arith)
+  by-tie false within = within
+
   -- the step at a node whose place and label's length are small
   step-within : (x c : Label) (side d : ℕ) → 1 ≤ d → d ≤ m → suc (length c) ≤ m → StepWithin m (stepAt x c side d p s)
   step-within x c zero d low high short =
-      by-predecessor (compare p d)
-      (compared-within (compareFrom d x c) d low (omega (arith, ends-from d x c low .second)))
+      by-tie (isTie d p s)
+      (by-predecessor (compare p d)
+      (compared-within (compareFrom d x c) d low (omega (arith, ends-from d x c low .second))))
   step-within x c (suc side) d low high short =
       by-successor (compare s d)
       (compared-within (compareFrom d x c) d low (omega (arith, ends-from d x c low .second)))

@@ -4,17 +4,8 @@ use Rattle.nodes.proofs.Turns.{row-left, row-right, row-compared}
 use Rattle.nodes.proofs.visit.Statement.{statement}
 use Rattle.nodes.proofs.visit.Tie as tie
 
-cast-d : tie.Need-cast-d
-cast-d c = search needs
-
-cast-turn : tie.Need-cast-turn
-cast-turn c = search needs
-
-reached-requires : tie.Need-reached-requires
-reached-requires c κs = search needs
-
-turn-requires : tie.Need-turn-requires
-turn-requires c κs = search needs
+turn-at-requires : tie.Need-turn-at-requires
+turn-at-requires c κs = search needs
 
 enum-told : tie.Need-enum-told
 enum-told c = search needs
@@ -27,6 +18,9 @@ enum-told-3 c = search needs
 
 compare-by-table-requires : tie.Need-compare-by-table-requires
 compare-by-table-requires c κs = search needs
+
+cast-decide : tie.Need-cast-decide
+cast-decide c = search needs
 
 decide-requires : tie.Need-decide-requires
 decide-requires c κs = search needs
@@ -44,14 +38,12 @@ pub visit-spec : {M : Type 1} → statement M
 visit-spec =
     tie.close
     (tie.spec
-    cast-d
-    cast-turn
-    reached-requires
-    turn-requires
+    turn-at-requires
     enum-told
     enum-told-2
     enum-told-3
     compare-by-table-requires
+    cast-decide
     decide-requires
     returns
     returns-2

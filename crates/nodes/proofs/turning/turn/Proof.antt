@@ -1,7 +1,6 @@
 -- `nodes::turning::turn` meets its contract, by the tests of its branches.
 use Rattle.labels.proofs.Branches.{branches}
 use Rattle.nodes.specs.Nodes.{turnOf}
-use Rattle.nodes.proofs.Turns.{turn-level}
 use Rattle.nodes.proofs.turning.turn.Statement.{statement}
 use Rattle.nodes.proofs.turning.turn.Tie as tie
 
@@ -22,7 +21,12 @@ unfolding turnOf
 returns-4 c = search branches
 
 returns-5 : tie.Need-returns-5
-returns-5 c = search turn-level
+unfolding turnOf
+returns-5 c = search branches
+
+returns-6 : tie.Need-returns-6
+unfolding turnOf
+returns-6 c = search branches
 
 pub turn-spec : {M : Type 1} → statement M
-turn-spec = tie.close (tie.spec returns returns-2 returns-3 returns-4 returns-5)
+turn-spec = tie.close (tie.spec returns returns-2 returns-3 returns-4 returns-5 returns-6)

@@ -76,6 +76,9 @@ mul-turn c =
 array-read-turn : tie.Need-array-read-turn Inv-loop μ-loop
 array-read-turn c = search live-side
 
+array-read-turn-2 : tie.Need-array-read-turn-2 Inv-loop μ-loop
+array-read-turn-2 c = search needs
+
 turn-requires : tie.Need-turn-requires Inv-loop μ-loop
 turn-requires c κs = search needs
 
@@ -117,14 +120,14 @@ enum-told-5 c = search needs
 read-row-requires-2 : tie.Need-read-row-requires-2 Inv-loop μ-loop
 read-row-requires-2 c κs = search live-row
 
-sub-t31 : tie.Need-sub-t31 Inv-loop μ-loop
-sub-t31 c =
+sub-visits : tie.Need-sub-visits Inv-loop μ-loop
+sub-visits c =
     let at = read (c .before .before .before .before .before .before .before) in
     let within = reached at .loop .inv .within in
     omega arith
 
-add-t32 : tie.Need-add-t32 Inv-loop μ-loop
-add-t32 c =
+add-visits : tie.Need-add-visits Inv-loop μ-loop
+add-visits c =
     let deep = start (read (c .before .before .before .before .before .before .before)) .pre .fit .depth in
     record { fits = omega arith }
 
@@ -207,6 +210,7 @@ walk-spec =
     cast-d
     mul-turn
     array-read-turn
+    array-read-turn-2
     turn-requires
     enum-told
     enum-told-2
@@ -219,8 +223,8 @@ walk-spec =
     array-write-ends
     enum-told-5
     read-row-requires-2
-    sub-t31
-    add-t32
+    sub-visits
+    add-visits
     returns-2
     enum-told-6
     array-write-ends-2
