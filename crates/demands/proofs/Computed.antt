@@ -27,7 +27,7 @@ use Rattle.demands.specs.UpdateTrials.{lastNumbers}
 use Rattle.demands.proofs.SoundAfter.{sound-after}
 
 -- the memory after calls on a fresh table
-pub after : List Call → Memory
+unfoldable pub after : List Call → Memory
 after calls = afterList hub calls laidOut
 
 -- Any calls leave a sound table and store; a short label fits.

@@ -21,7 +21,7 @@ use Rattle.tables.specs.Steps.{searchSteps}
 use Rattle.cases.specs.Cases.{a, b, c, d, roster}
 use Rattle.demands.specs.Trials.{SearchVersion, MeetsSearch, NeverFinds, Count, visits, places, ofCounts}
 use Rattle.demands.specs.Trials.{countIn, countOf, SearchesAnswer, SearchesCount, SkipsFirst, StopsAtZero}
-use Rattle.demands.specs.Trials.{FindsExactly, SearchesAsBefore, TiesOnBoth}
+use Rattle.demands.specs.Trials.{FindsExactly, AnswersCaseSix, SearchesAsBefore, TiesOnBoth}
 use Rattle.demands.proofs.Computed.{after, fair-one, fair-two, searched, onlyA, capital, shown}
 use Rattle.demands.proofs.Computed.{small-is-not-capital, sidedTable, sidedStore, sided-words, sided-bytes}
 use Rattle.demands.proofs.CountsGiven.{search-counts}
@@ -82,8 +82,8 @@ exact-search-fails f exact meets =
     small-is-not-capital (sym (shown .shown-small) ∙ same-bytes)
 
 -- A search that answers case 6 with 3 and 4 fails.
-pub compared-tie-fails : (f : SearchVersion)
-    → f (after roster .table) (after roster .store) (d ∷ a ∷ []) ≡ absent 3 4 → ¬ MeetsSearch f
+pub compared-tie-fails : (f : SearchVersion) → AnswersCaseSix (absent 3 4) f → ¬ MeetsSearch f
+unfolding after
 compared-tie-fails f answers meets =
     let same : absent 3 4 ≡ absent 3 3 = sym answers ∙ answered f meets roster (d ∷ a ∷ []) ∙ shown .tie-now in
     let places : _≡_ {A = ℕ} 4 3 = ap placesIn same in
@@ -94,6 +94,7 @@ compared-tie-fails f answers meets =
 
 -- So does a search by the steps before M-106.
 pub search-as-before-fails : (f : SearchVersion) → SearchesAsBefore f → ¬ MeetsSearch f
+unfolding after
 search-as-before-fails f before =
     compared-tie-fails f
     (before (after roster .table) (after roster .store) (d ∷ a ∷ []) (fair-two roster) ∙ shown .tie-before)

@@ -15,6 +15,8 @@ use Rattle.tables.specs.Written.{Memory}
 use Rattle.tables.specs.Steps.{go-left, StepRule, isTie, stepAt, Walk, walkFromRoot}
 use Rattle.tables.specs.Outcomes.{Outcome, visitsOf, placesOf, walkAnswer, searchOutcome, updateOutcome}
 use Rattle.tables.specs.Claims.{Sound, LabelFits, labelIn}
+use Rattle.cases.specs.Cases.{a, d, roster, laidOut}
+use Rattle.demands.specs.Counts.{afterList}
 use Rattle.demands.specs.Ties.{stepsBefore}
 
 -- ---- the contracts
@@ -101,7 +103,12 @@ FindsExactly f =
     → (slot value visits places : ℕ) → f table store x ≡ found slot value visits places
     → labelIn hub (lent table store) slot ≡ x
 
--- M-106 of document 02: a search by the steps before the request
+-- M-106 of document 02: case 6 answered so
+abbrev pub AnswersCaseSix : Answer → SearchVersion → Type 0
+AnswersCaseSix answer f =
+    f (afterList hub roster laidOut .table) (afterList hub roster laidOut .store) (d ∷ a ∷ []) ≡ answer
+
+-- a search by the steps before the request
 abbrev pub SearchesAsBefore : SearchVersion → Type 0
 SearchesAsBefore f =
     (table store : List ℕ) (x : Label) → Fair table store x
