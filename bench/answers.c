@@ -10,6 +10,26 @@ static bool same_but_places(uint64_t said, uint64_t before)
     return strap_places_of(before) >= strap_places_of(said) && before == said + (more << 4);
 }
 
+/* The slot shows the label at this place of the sorted array, from 1, or is 0 where there is none. */
+static bool shows(const struct workload *w, unsigned slot, size_t place)
+{
+    const struct index *index = w->index;
+    if (place == 0 || place > w->labels.count)
+        return slot == 0;
+    const struct entry *e = w->entries + place - 1;
+    uint64_t said = index->view(w->table, index->words, w->store, index->bytes, slot);
+    return strap_kind_of(said) == STRAP_VIEWED && strap_length_of(said) == e->len &&
+           memcmp(w->folded_store + strap_start_of(said), e->label, e->len) == 0;
+}
+
+/* The slots beside an absent label show the labels that stand next to it in the sorted array. */
+static void compare_neighbours(const struct workload *w, uint64_t said, const uint8_t *x, size_t n)
+{
+    size_t smaller = array_smaller(w->entries, w->labels.count, x, n);
+    if (!shows(w, strap_below_of(said), smaller) || !shows(w, strap_above_of(said), smaller + 1))
+        fail("the neighbours are not those in the sorted array");
+}
+
 static void compare_search(const struct workload *w, const uint8_t *x, size_t n)
 {
     const struct index *index = w->index;
@@ -29,6 +49,8 @@ static void compare_search(const struct workload *w, const uint8_t *x, size_t n)
         value != array_search(w->entries, w->labels.count, x, n) || value != map_search(w->map, x, n) ||
         value != btree_search(w->btree, x, n))
         fail("the contestants' answers differ");
+    if (strap_kind_of(said) == STRAP_ABSENT)
+        compare_neighbours(w, said, x, n);
 }
 
 /* ---- memory with a bit changed */

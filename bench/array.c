@@ -40,3 +40,13 @@ uint64_t array_search(const struct entry *entries, size_t count, const uint8_t *
     }
     return 0;
 }
+
+size_t array_smaller(const struct entry *entries, size_t count, const uint8_t *label, size_t n)
+{
+    uint8_t sought[WIDTH];
+    fold(sought, label, n);
+    size_t smaller = 0;
+    while (smaller < count && order_of(entries[smaller].label, entries[smaller].len, sought, n) < 0)
+        smaller++;
+    return smaller;
+}

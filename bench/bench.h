@@ -100,7 +100,8 @@ check_call sound_check, page_sound_check;
  * and visits of that search */
 whole_call whole_search, page_whole_search, whole_counts, page_whole_counts;
 
-/* array.c: a sorted array of folded labels, searched by halves with memcmp */
+/* array.c: a sorted array of folded labels, searched by halves with memcmp; and how many of them are smaller than a
+ * label, one after another */
 struct entry {
     uint8_t label[WIDTH];
     uint16_t len;
@@ -108,6 +109,7 @@ struct entry {
 };
 void array_sort(struct entry *entries, size_t count);
 uint64_t array_search(const struct entry *entries, size_t count, const uint8_t *label, size_t n);
+size_t array_smaller(const struct entry *entries, size_t count, const uint8_t *label, size_t n);
 
 /* map.cpp: C++ std::map of folded labels */
 void *map_new(void);

@@ -67,6 +67,18 @@ static uint64_t delete(const char *label)
     return STRAP(delete)(table, WORDS, store, BYTES, (const uint8_t *)label, strlen(label));
 }
 
+/* The label is absent, and these slots are next to it. */
+static uint64_t lies_between(const char *label, unsigned below, unsigned above)
+{
+    uint64_t said = search(label);
+    if (strap_kind_of(said) != STRAP_ABSENT || strap_below_of(said) != below || strap_above_of(said) != above) {
+        fprintf(stderr, INDEX ": search %s: kind %u, between %u and %u\n", label, strap_kind_of(said),
+                strap_below_of(said), strap_above_of(said));
+        failed = 1;
+    }
+    return said;
+}
+
 /* The roster of document 01: "b", "a", "dd", "c". */
 static void answers(void)
 {
@@ -79,8 +91,7 @@ static void answers(void)
     says("insert dd", insert("dd", 65535), STRAP_UPDATED, 3, 0);
     says("insert c", said = insert("c", 40), STRAP_UPDATED, 4, 0);
     counts("insert c", said, 2, 2);
-    says("search da", said = search("da"), STRAP_ABSENT, 0, 0);
-    counts("search da", said, 3, 3);
+    counts("search da", lies_between("da", 4, 3), 3, 3);
     says("search dd", said = search("dd"), STRAP_FOUND, 3, 65535);
     counts("search dd", said, 2, 4);
     says("check", check(), STRAP_DONE, 0, 0);
@@ -114,7 +125,7 @@ static void refusals(void)
     refuses("3", search(""), STRAP_EMPTY_LABEL);
     refuses("4", insert(label, 1), STRAP_LONG_LABEL);
     label[WIDTH] = 0;
-    says("the longest label", search(label), STRAP_ABSENT, 0, 0);
+    lies_between(label, 3, 0);
     refuses("7", insert("a", 1), STRAP_ALREADY_HELD);
     refuses("8", delete("b"), STRAP_NOT_HELD);
     refuses("10", listing(2), STRAP_SHORT_LIST);
@@ -153,7 +164,7 @@ static void spellings(void)
     says("search ben", search("ben"), STRAP_FOUND, 2, 30);
     says("check of both", check(), STRAP_DONE, 0, 0);
     says("delete aNNA", delete("aNNA"), STRAP_UPDATED, 1, 0);
-    says("search anna, deleted", search("anna"), STRAP_ABSENT, 0, 0);
+    lies_between("anna", 0, 2);
     says("insert Anna", insert("Anna", 40), STRAP_UPDATED, 1, 0);
     shows("the new spelling", 1, "Anna");
     says("search anna", search("anna"), STRAP_FOUND, 1, 40);
@@ -163,7 +174,7 @@ static void spellings(void)
     says("insert {", insert("{", 4), STRAP_UPDATED, 6, 0);
     says("insert byte 192", insert("\300", 5), STRAP_UPDATED, 7, 0);
     says("insert byte 224", insert("\340", 6), STRAP_UPDATED, 8, 0);
-    says("search Z", search("Z"), STRAP_ABSENT, 0, 0);
+    lies_between("Z", 2, 6);
     says("check of eight", check(), STRAP_DONE, 0, 0);
     says("listing of eight", listing(SLOTS), STRAP_LISTED, 8, 0);
     static const uint16_t order[] = {3, 5, 4, 1, 2, 6, 7, 8};
@@ -171,21 +182,57 @@ static void spellings(void)
         says("the order of eight", 0, STRAP_LISTED, 8, 0);
 }
 
-/* A full table, its first and last slot, and one label more. */
+/* The slots next to an absent label: in an empty table, with one label, in the roster; with the place of "b" changed,
+ * so that a walk goes right there and compares nothing; none where a walk is broken in the end. */
+static void neighbours(void)
+{
+    layout();
+    counts("search a in nothing", lies_between("a", 0, 0), 0, 0);
+    insert("a", 20);
+    counts("search aa", lies_between("aa", 1, 0), 1, 2);
+    layout();
+    insert("b", 10);
+    insert("a", 20);
+    insert("dd", 30);
+    insert("c", 40);
+    counts("search DA", lies_between("DA", 4, 3), 3, 3);
+    lies_between("AB", 2, 1);
+    lies_between("!", 0, 2);
+    lies_between("ddd", 3, 0);
+    table[4 + 2] = 2;
+    refuses("6, a place changed", check(), STRAP_NOT_SOUND);
+    lies_between("a", 1, 4);
+    table[4 + 8 * 3] = SLOTS + 1;
+    refuses("5, at the fourth node", search("a"), STRAP_BROKEN_WALK);
+}
+
+/* Three digits in ascending order: the label of slot i + 1 in a full table. */
+static void spell(char *label, unsigned i)
+{
+    label[0] = (char)('0' + i / 64);
+    label[1] = (char)('0' + i / 8 % 8);
+    label[2] = (char)('0' + i % 8);
+}
+
+/* A full table, its first and last slot, one label more, and one sought in each gap. */
 static void full(void)
 {
-    char label[4] = "000";
+    char label[5] = "000";
     layout();
-    for (int i = 0; i < SLOTS; i++) {
-        label[0] = (char)('0' + i / 64);
-        label[1] = (char)('0' + i / 8 % 8);
-        label[2] = (char)('0' + i % 8);
-        says("filling", insert(label, (uint16_t)i), STRAP_UPDATED, (unsigned)i + 1, 0);
+    for (unsigned i = 0; i < SLOTS; i++) {
+        spell(label, i);
+        says("filling", insert(label, (uint16_t)i), STRAP_UPDATED, i + 1, 0);
     }
     refuses("9", insert("a", 1), STRAP_FULL);
     says("listing of all", listing(SLOTS), STRAP_LISTED, SLOTS, 0);
     says("view of 1", view(1), STRAP_VIEWED, 0, 3);
     says("view of the last", view(SLOTS), STRAP_VIEWED, BYTES - WIDTH, 3);
+    lies_between("!", 0, 1);
+    label[3] = '!';
+    for (unsigned i = 0; i < SLOTS; i++) {
+        spell(label, i);
+        lies_between(label, i + 1, i + 1 < SLOTS ? i + 2 : 0);
+    }
 }
 
 int each_call(void)
@@ -193,6 +240,7 @@ int each_call(void)
     answers();
     refusals();
     spellings();
+    neighbours();
     full();
     return failed;
 }

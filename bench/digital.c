@@ -1,5 +1,5 @@
-/* The search of the index in plain C: the same steps, the same refusals and the same counts; and the same without the
- * first line of the steps, as they were before M-106. */
+/* The search of the index in plain C: the same steps, the same refusals, counts and neighbours; and the same without
+ * the first line of the steps, as they were before M-106. */
 #include "bench.h"
 #include <stdbool.h>
 
@@ -21,6 +21,7 @@ static inline __attribute__((always_inline)) uint64_t by_steps(bool first_line, 
     if (n > WIDTH)
         return refused(STRAP_LONG_LABEL);
     size_t p = 1, s = 1, visits = 0, places = 0;
+    size_t last[2] = {0, 0}; /* the nodes where it went left and right */
     size_t link = table[0];
     while (link != 0) {
         if (visits >= DEPTH || link > SLOTS)
@@ -33,7 +34,9 @@ static inline __attribute__((always_inline)) uint64_t by_steps(bool first_line, 
         size_t reached = side == 0 ? p : s;
         /* with s above d, what has reached d is p: side successor goes by s */
         if (reached != d || (first_line && s > d)) {
-            link = row[(reached <= d) == (side == 0)];
+            bool right = (reached <= d) == (side == 0);
+            last[right] = link;
+            link = row[right];
             continue;
         }
         const uint8_t *held = store + WIDTH * (link - 1);
@@ -46,9 +49,10 @@ static inline __attribute__((always_inline)) uint64_t by_steps(bool first_line, 
             p = i + 1;
         else
             s = i + 1;
+        last[larger] = link;
         link = row[larger];
     }
-    return pack(STRAP_ABSENT, places, visits, 0, 0);
+    return pack(STRAP_ABSENT, places, visits, last[1], last[0]);
 }
 
 uint64_t digital_search(const uint16_t *table, size_t words, const uint8_t *store, size_t bytes, const uint8_t *label,

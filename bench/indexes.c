@@ -16,6 +16,7 @@ const struct index hub = {
     .whole_counts = whole_counts,
     .insert = strap_insert,
     .delete = strap_delete,
+    .view = strap_view,
 };
 
 const struct index page = {
@@ -33,4 +34,5 @@ const struct index page = {
     .whole_counts = page_whole_counts,
     .insert = strap_page_insert,
     .delete = strap_page_delete,
+    .view = strap_page_view,
 };

@@ -13,6 +13,7 @@ struct index {
     uint64_t (*insert)(uint16_t *table, size_t words, uint8_t *store, size_t bytes, const uint8_t *label, size_t n,
                        uint16_t value);
     uint64_t (*delete)(uint16_t *table, size_t words, uint8_t *store, size_t bytes, const uint8_t *label, size_t n);
+    uint64_t (*view)(const uint16_t *table, size_t words, const uint8_t *store, size_t bytes, size_t slot);
 };
 
 extern const struct index hub, page;

@@ -32,7 +32,7 @@ enum { STRAP_PAGE_SLOTS = 32, STRAP_PAGE_WIDTH = 20, STRAP_PAGE_WORDS = 260, STR
 enum strap_kind {
     STRAP_REFUSED = 0, /* one: the refusal's number */
     STRAP_FOUND = 1,   /* places, visits; one: the label's slot; other: its value */
-    STRAP_ABSENT = 2,  /* places, visits */
+    STRAP_ABSENT = 2,  /* places, visits; one: the nearest smaller label's slot; other: the nearest larger's; 0: none */
     STRAP_UPDATED = 3, /* places, visits of the call's search; one: the slot taken or freed */
     STRAP_DONE = 4,    /* nothing more */
     STRAP_LISTED = 5,  /* one: how many slots were written */
@@ -62,10 +62,12 @@ static inline unsigned strap_visits_of(uint64_t answer) { return (unsigned)(answ
 static inline unsigned strap_one_of(uint64_t answer) { return (unsigned)(answer >> 32 & 65535); }
 static inline unsigned strap_other_of(uint64_t answer) { return (unsigned)(answer >> 48 & 65535); }
 
-/* by the kind: refused; found or updated; found; listed; viewed */
+/* by the kind: refused; found or updated; found; absent; listed; viewed */
 static inline unsigned strap_refusal_of(uint64_t answer) { return strap_one_of(answer); }
 static inline unsigned strap_slot_of(uint64_t answer) { return strap_one_of(answer); }
 static inline unsigned strap_value_of(uint64_t answer) { return strap_other_of(answer); }
+static inline unsigned strap_below_of(uint64_t answer) { return strap_one_of(answer); }
+static inline unsigned strap_above_of(uint64_t answer) { return strap_other_of(answer); }
 static inline unsigned strap_count_of(uint64_t answer) { return strap_one_of(answer); }
 static inline unsigned strap_start_of(uint64_t answer) { return strap_one_of(answer); }
 static inline unsigned strap_length_of(uint64_t answer) { return strap_other_of(answer); }
@@ -79,7 +81,8 @@ extern "C" {
 /* STRAP_DONE: every word and byte is 0, an empty table. */
 uint64_t strap_layout(uint16_t *table, size_t words, uint8_t *store, size_t bytes);
 
-/* STRAP_FOUND or STRAP_ABSENT. */
+/* STRAP_FOUND; or STRAP_ABSENT, with the slots of the label's neighbours: on a sound table the nearest smaller and the
+ * nearest larger label held, on any other the last nodes where the walk went right and left. */
 uint64_t strap_search(const uint16_t *table, size_t words, const uint8_t *store, size_t bytes, const uint8_t *label,
                       size_t n);
 

@@ -28,7 +28,7 @@ pub data Finding : Type 0 where
 
 abbrev pub slotIn : Answer → ℕ
 slotIn (found slot value visits places) = slot
-slotIn (absent visits places) = 0
+slotIn (absent below above visits places) = 0
 slotIn (updated slot visits places) = slot
 slotIn (listed count) = 0
 slotIn done = 0
@@ -92,12 +92,12 @@ case number asks shows = record { number = number; asks = asks; shows = shows }
 -- 02 has it: "Case 6 becomes 3 and 3"
 unfoldable pub starred : List Scene
 starred =
-    record { calls = []; cases = case 1 (call (search (a ∷ []))) (answers (absent 0 0)) ∷ [] }
+    record { calls = []; cases = case 1 (call (search (a ∷ []))) (answers (absent 0 0 0 0)) ∷ [] }
     ∷ record {
       calls = insert (a ∷ []) 5 ∷ [];
       cases =
           case 2 (call (search (a ∷ []))) (answers (found 1 5 1 2))
-          ∷ case 3 (call (search (a ∷ a ∷ []))) (answers (absent 1 2))
+          ∷ case 3 (call (search (a ∷ a ∷ []))) (answers (absent 1 0 1 2))
           ∷ [];
     }
     ∷ record {
@@ -105,7 +105,7 @@ starred =
       cases =
           case 4 (prefix (a ∷ [])) (fields 1 1)
           ∷ case 5 (prefix (c ∷ [])) (fields 1 0)
-          ∷ case 6 (call (search (d ∷ a ∷ []))) (answers (absent 3 3))
+          ∷ case 6 (call (search (d ∷ a ∷ []))) (answers (absent 4 3 3 3))
           ∷ case 7 (call (search (d ∷ d ∷ []))) (answers (found 3 30 2 4))
           ∷ [];
     }

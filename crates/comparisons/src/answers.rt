@@ -45,7 +45,7 @@ fn as_map(call: usize, said: usize, plain: Said) -> usize {
         return packing::counted(packing::UPDATED, visits, places, plain.slot, 0);
     }
     if plain.slot == 0 {
-        return packing::counted(packing::ABSENT, visits, places, 0, 0);
+        return packing::counted(packing::ABSENT, visits, places, plain.below, plain.above);
     }
     packing::counted(packing::FOUND, visits, places, plain.slot, plain.value)
 }

@@ -1,4 +1,8 @@
-// A call on any memory, compared with the second writing.
+// A call on any memory, compared with the second writing; where the memory is sound, a search also with the map of the
+// labels held.
+use crate::answers;
+use crate::maps;
+use audits::lengths;
 use audits::sound;
 use images::memory;
 use images::memory::Image;
@@ -25,10 +29,26 @@ pub fn fault(
     if packing::kind(said) == packing::UPDATED {
         return update_fault(found, left, call, label, inserted_as(said, number));
     }
-    if memory::same(&judged, left) {
+    if !memory::same(&judged, left) {
+        return faults::MEMORY;
+    }
+    if call == SEARCH {
+        return search_fault(found, label, said);
+    }
+    0
+}
+
+// The fault of a search on sound memory of the right lengths, beside the map of the labels held; on any other there is
+// no map.
+fn search_fault(image: &Image, label: &[u8], said: usize) -> usize {
+    if lengths::lent_refusal(image) > 0 {
         return 0;
     }
-    faults::MEMORY
+    if !sound::is_sound(image) {
+        return 0;
+    }
+    let map = maps::of_table(image);
+    answers::fault(image, SEARCH, label, said, plainmap::search(&map, label))
 }
 
 // A slot and a value, in one number.

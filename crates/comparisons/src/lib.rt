@@ -2,4 +2,5 @@
 // function here makes a call.
 pub mod answers;
 pub mod judged;
+mod maps;
 pub mod states;

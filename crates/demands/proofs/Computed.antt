@@ -99,10 +99,10 @@ rowOfAA place =
 
 pub record Shown : Type 0 where
   -- cases 1 and 2, and two labels that are unlike "a" at place 1 and at its end
-  pub none-held : searched [] (a ∷ []) ≡ absent 0 0
+  pub none-held : searched [] (a ∷ []) ≡ absent 0 0 0 0
   pub one-held : searched onlyA (a ∷ []) ≡ found 1 5 1 2
-  pub other-first : searched onlyA (b ∷ []) ≡ absent 1 1
-  pub zero-after : searched onlyA (a ∷ 0 ∷ []) ≡ absent 1 2
+  pub other-first : searched onlyA (b ∷ []) ≡ absent 1 0 1 1
+  pub zero-after : searched onlyA (a ∷ 0 ∷ []) ≡ absent 1 0 1 2
   -- inserts and deletes
   pub first-in : next [] (insert (a ∷ []) 5) .answer ≡ updated 1 0 0
   pub in-again : next onlyA (insert (a ∷ []) 5) .answer ≡ refused 7
@@ -133,12 +133,13 @@ pub record Shown : Type 0 where
   pub capital-in : next [] (insert capital 5) .answer ≡ updated 1 0 0
   pub shown-capital : labelIn hub (next [] (insert capital 5) .memory) 1 ≡ capital
   -- case 6, by the search steps and by those before M-106; the first line applies once
-  pub tie-now : searched roster (d ∷ a ∷ []) ≡ absent 3 3
-  pub tie-before : walkAnswer (stepsBefore hub (after roster .table) (after roster .store) (d ∷ a ∷ [])) ≡ absent 3 4
+  pub tie-now : searched roster (d ∷ a ∷ []) ≡ absent 4 3 3 3
+  pub tie-before :
+      walkAnswer (stepsBefore hub (after roster .table) (after roster .store) (d ∷ a ∷ [])) ≡ absent 4 3 3 4
   pub tie-met : tiesMet hub (after roster .table) (after roster .store) (d ∷ a ∷ []) ≡ 1
   -- "ac" in that table, by the search steps and with the line of the tie on side successor too
   pub both-now : searchOutcome hub sidedTable sidedStore (a ∷ c ∷ []) ≡ found 2 2 2 5
-  pub both-sides : walkAnswer (walkFromRoot stepOnBoth hub sidedTable sidedStore (a ∷ c ∷ [])) ≡ absent 2 2
+  pub both-sides : walkAnswer (walkFromRoot stepOnBoth hub sidedTable sidedStore (a ∷ c ∷ [])) ≡ absent 1 2 2 2
 
 -- All of it holds by computation.
 pub shown : Shown

@@ -28,14 +28,14 @@ use Rattle.demands.proofs.Fresh.{laid-out-is-fresh}
 state-after-search : (capacity width : ℕ) (x : Label) (s : State) → plainStep capacity width (search x) s .state ≡ s
 state-after-search capacity width x s = by-tests (eqb (length x) 0) (ltb width (length x))
   where
-    by-held : (h : Held) → afterSearch h s .state ≡ s
-    by-held absent = refl
-    by-held (found e) = refl
+    by-held : (h : Held) (below above : ℕ) → afterSearch h below above s .state ≡ s
+    by-held absent below above = refl
+    by-held (found e) below above = refl
 
     by-tests : (empty long : Bool) → afterLength empty long capacity (search x) s .state ≡ s
     by-tests true long = refl
     by-tests false true = refl
-    by-tests false false = by-held (fullSearch x (s .tree) .result)
+    by-tests false false = by-held (fullSearch x (s .tree) .result) _ _
 
 module _ (limits : Limits) (deepest : Deepest (limits .slots) (limits .depth)) where
   module _ (s : State) (valid : Valid (limits .slots) (limits .width) s) where

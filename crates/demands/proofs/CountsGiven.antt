@@ -19,14 +19,15 @@ use Rattle.demands.specs.Trials.{countIn, countOf, CountGives, lent}
 
 module _ (k : Count) where
   -- What is held is answered with the counts.
-  counts-of-held : (h : Held) (visits places : ℕ) → CountGives k (ofCounts k visits places) (answerOf h visits places)
-  counts-of-held absent visits places n given = cc
-  counts-of-held (found e) visits places n given = cc
+  counts-of-held : (h : Held) (below above visits places : ℕ)
+      → CountGives k (ofCounts k visits places) (answerOf h below above visits places)
+  counts-of-held absent below above visits places n given = cc
+  counts-of-held (found e) below above visits places n given = cc
 
   -- A walk's answer gives its counts, or none.
   counts-of-walk : (w : Walk) → CountGives k (countOf k w) (walkAnswer w)
   counts-of-walk broken n given = clash cc
-  counts-of-walk (ended s places) n given = counts-of-held (s .result) (length (s .visited)) places n given
+  counts-of-walk (ended s places) n given = counts-of-held (s .result) _ _ (length (s .visited)) places n given
 
   -- So does a refusal, or else the walk's answer.
   counts-by : (v : Verdict) (w : Walk) → CountGives k (countOf k w) (answerBy v (walkAnswer w))
@@ -36,7 +37,7 @@ module _ (k : Count) where
   -- A reply's answer gives the walk's counts, or none.
   counts-of-reply : (r : Reply) (w : Walk) → CountGives k (countOf k w) (replyAnswer r w)
   counts-of-reply (found-at slot value) w n given = cc
-  counts-of-reply not-held w n given = cc
+  counts-of-reply (not-held below above) w n given = cc
   counts-of-reply (updated slot) w n given = cc
   counts-of-reply (refused number) w n given = clash cc
 

@@ -4,6 +4,7 @@
 -- hub-breaks: one node more breaks a walk. hub-refuses-page: the page's table is refused by 1.
 -- hub-one-name, hub-spelling-stays: spellings of one name.
 -- hub-tie-saves: the places that the first line of the search steps saves.
+-- hub-true-neighbours: who stands next to a missing label.
 use native.Mathlib.Omega.{arith}
 use Rattle.types.specs.Sizes.{hub, page}
 use Rattle.tables.proofs.Depths.{hub-depth}
@@ -13,6 +14,7 @@ use Rattle.demands.specs.Counts.{CountsWithin, BreaksAfter}
 use Rattle.demands.specs.OtherMemory.{RefusesTableOf}
 use Rattle.demands.specs.Spellings.{OneName, SpellingStays}
 use Rattle.demands.specs.Ties.{TieSaves}
+use Rattle.demands.specs.NextTo.{TrueNeighbours}
 use Rattle.demands.proofs.CostRule.{cost-rule}
 use Rattle.demands.proofs.OrderedMap.{ordered-map}
 use Rattle.demands.proofs.Counts.{counts-within}
@@ -21,6 +23,7 @@ use Rattle.demands.proofs.OtherMemory.{wrong-table-refused}
 use Rattle.demands.proofs.OneName.{one-name}
 use Rattle.demands.proofs.Spellings.{spelling-stays}
 use Rattle.demands.proofs.Ties.{tie-saves}
+use Rattle.demands.proofs.NextTo.{true-neighbours}
 
 -- Demand 2 at the hub.
 pub hub-ordered-map : OrderedMap hub
@@ -56,3 +59,7 @@ hub-spelling-stays = spelling-stays hub hub-depth
 -- On a sound table of the hub, the walk before M-106 examined a place more at each node where its line applies.
 pub hub-tie-saves : TieSaves hub
 hub-tie-saves = tie-saves hub hub-depth
+
+-- On a sound table of the hub, the slots beside an absent label show the map's true neighbours.
+pub hub-true-neighbours : TrueNeighbours hub
+hub-true-neighbours = true-neighbours hub hub-depth

@@ -17,6 +17,7 @@ pub mod OtherMemory
 pub mod Breaks
 pub mod TieSteps
 pub mod Ties
+pub mod NextTo
 pub mod Hub
 pub mod Page
 pub mod SoundAfter

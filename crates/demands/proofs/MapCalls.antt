@@ -9,9 +9,9 @@ use Rattle.labels.specs.Neighbours.{none-below, none-above}
 use Rattle.labels.proofs.Clashes.{clash}
 use Rattle.trees.specs.Trees.{Entry}
 use Rattle.trees.specs.Heights.{Deepest}
-use Rattle.trees.specs.Searches.{Held, absent, found, fullSearch}
+use Rattle.trees.specs.Searches.{Held, absent, found, fullSearch, slotOf}
 use Rattle.trees.specs.Plain.{State, Call, search, insert, delete, soughtBy}
-use Rattle.trees.specs.Plain.{After, afterSearch, afterHeld, plainStep}
+use Rattle.trees.specs.Plain.{After, afterSearch, afterFullSearch, plainStep}
 use Rattle.trees.specs.Map.{lookup, mapOf}
 use Rattle.trees.specs.Valid.{Valid}
 use Rattle.trees.proofs.MapLaws.{pairIn, lookup-of-search}
@@ -34,7 +34,7 @@ module _ (limits : Limits) (deepest : Deepest (limits .slots) (limits .depth)) w
       (c : Call) (fits : LabelFits limits (soughtBy c)) where
     -- what the plain tree's step leaves, and the steps on the table
     abbrev settledBy : After
-    settledBy = afterHeld (limits .slots) c (fullSearch (soughtBy c) (s .tree) .result) s
+    settledBy = afterFullSearch (limits .slots) c (fullSearch (soughtBy c) (s .tree)) s
 
     abbrev walkFor : Walk
     walkFor = searchSteps limits (writtenTable limits s) (writtenStore limits s) (soughtBy c)
@@ -53,9 +53,15 @@ module _ (limits : Limits) (deepest : Deepest (limits .slots) (limits .depth)) w
     update-settled = rw step-settled at (update-outcome limits s deepest valid c)
 
   module _ (s : State) (valid : Valid (limits .slots) (limits .width) s) (x : Label) (fits : LabelFits limits x) where
-    -- what the search of the plain tree finds, and the steps on the table
+    -- what the search of the plain tree finds, the slots beside it, and the steps on the table
     abbrev sought : Held
     sought = fullSearch x (s .tree) .result
+
+    abbrev below : ℕ
+    below = slotOf (fullSearch x (s .tree) .below)
+
+    abbrev above : ℕ
+    above = slotOf (fullSearch x (s .tree) .above)
 
     abbrev walk : Walk
     walk = searchSteps limits (writtenTable limits s) (writtenStore limits s) x
@@ -73,19 +79,20 @@ module _ (limits : Limits) (deepest : Deepest (limits .slots) (limits .depth)) w
     pub search-looks-up : SearchLooksUp limits (written limits s) x
     search-looks-up = record {
       pair =
-          ap (pairSaid limits (written limits s)) answer ∙ pair-of-answer s walk limits (written limits s) sought shown
+          ap (pairSaid limits (written limits s)) answer
+          ∙ pair-of-answer s walk limits (written limits s) sought below above shown
           ∙ looked-up ∙ ap (lookup x) (sym (map-of-written limits deepest s valid));
       slot = λ k v visits places says. slot-of-found k v visits places sought refl (sym answer ∙ says);
-      answered = λ number refusal. search-answered s walk sought number (sym answer ∙ refusal);
+      answered = λ number refusal. search-answered s walk sought below above number (sym answer ∙ refusal);
     }
       where
         answer : searchOutcome limits (writtenTable limits s) (writtenStore limits s) x
-            ≡ replyAnswer (afterSearch sought s .reply) walk
+            ≡ replyAnswer (afterSearch sought below above s .reply) walk
         answer = rw (step-settled s valid (search x) fits) at (search-outcome limits s deepest valid x)
 
         -- the slot that it gives has a label alike to the one sought
         slot-of-found : (k v visits places : ℕ) (h : Held) → sought ≡ h
-            → replyAnswer (afterSearch h s .reply) walk ≡ found-with k v visits places
+            → replyAnswer (afterSearch h below above s .reply) walk ≡ found-with k v visits places
             → Alike x (labelIn limits (written limits s) k)
         slot-of-found k v visits places absent none-held says =
             clash cc

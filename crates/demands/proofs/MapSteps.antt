@@ -19,7 +19,7 @@ use Rattle.labels.proofs.Clashes.{clash}
 use Rattle.trees.specs.Trees.{Entry, size, labels}
 use Rattle.trees.specs.Searches.{Held, absent, found, fullSearch}
 use Rattle.trees.specs.Plain.{State, Call, soughtBy, afterSearch, newEntry, insertIfRoom}
-use Rattle.trees.specs.Plain.{afterInsert, afterDelete, afterHeld, plainStep}
+use Rattle.trees.specs.Plain.{afterInsert, afterDelete, afterFullSearch, plainStep}
 use Rattle.trees.specs.Map.{Pair, lookupBy, lookup, removalBy, removal, mapOf}
 use Rattle.trees.specs.Valid.{ascends}
 use Rattle.trees.proofs.MapLaws.{pairIn, map-of-inserted, map-of-deleted}
@@ -44,22 +44,23 @@ removal-of-missing x (p ∷ more) missing =
 -- A call with a label that fits is settled by what its search found.
 pub step-of-fitting : (capacity width : ℕ) (c : Call) (s : State)
     → 1 ≤ length (soughtBy c) → length (soughtBy c) ≤ width
-    → plainStep capacity width c s ≡ afterHeld capacity c (fullSearch (soughtBy c) (s .tree) .result) s
+    → plainStep capacity width c s ≡ afterFullSearch capacity c (fullSearch (soughtBy c) (s .tree)) s
 step-of-fitting capacity width c s long short =
     rw (ne-eqb (length (soughtBy c)) 0 (omega arith), le-ltb width (length (soughtBy c)) short)
 
 module _ (s : State) (w : Walk) where
   -- A search says the pair held, where the slot of the node found shows the node's label.
-  pub pair-of-answer : (limits : Limits) (m : Memory) (h : Held)
+  pub pair-of-answer : (limits : Limits) (m : Memory) (h : Held) (below above : ℕ)
       → ((e : Entry) → h ≡ found e → labelIn limits m (e .slot) ≡ e .label)
-      → pairSaid limits m (replyAnswer (afterSearch h s .reply) w) ≡ pairIn h
-  pair-of-answer limits m absent shows = refl
-  pair-of-answer limits m (found e) shows = rw (shows e refl)
+      → pairSaid limits m (replyAnswer (afterSearch h below above s .reply) w) ≡ pairIn h
+  pair-of-answer limits m absent below above shows = refl
+  pair-of-answer limits m (found e) below above shows = rw (shows e refl)
 
   -- A search is not refused.
-  pub search-answered : (h : Held) (number : ℕ) → replyAnswer (afterSearch h s .reply) w ≡ refused number → ⊥
-  search-answered absent number no-answer = clash cc
-  search-answered (found e) number no-answer = clash cc
+  pub search-answered : (h : Held) (below above number : ℕ)
+      → replyAnswer (afterSearch h below above s .reply) w ≡ refused number → ⊥
+  search-answered absent below above number no-answer = clash cc
+  search-answered (found e) below above number no-answer = clash cc
 
   module _ (capacity : ℕ) (x : Label) (v : ℕ) where
     -- what an insert says by what its search found

@@ -16,9 +16,10 @@ use Rattle.types.specs.Sizes.{tableLength, storeLength}
 use Rattle.labels.specs.Labels.{Label}
 use Rattle.trees.specs.Trees.{size}
 use Rattle.trees.specs.Heights.{Deepest}
-use Rattle.trees.specs.Searches.{Held, absent, found, Search, fullSearch}
+use Rattle.trees.specs.Searches.{Held, absent, found, Search, fullSearch, slotOf}
 use Rattle.trees.specs.Plain.{State, Call, search, insert, delete, soughtBy, afterSearch, newEntry, insertIfRoom}
-use Rattle.trees.specs.Plain.{afterHeld, afterLength, plainStep}
+use Rattle.trees.specs.Plain.{afterInsert, afterDelete}
+use Rattle.trees.specs.Plain.{afterFullSearch, afterLength, plainStep}
 use Rattle.trees.specs.Valid.{Valid}
 use Rattle.tables.specs.Written.{Memory, written, writtenTable, writtenStore}
 use Rattle.tables.specs.Steps.{Walk, ended, searchSteps}
@@ -46,31 +47,35 @@ written-passes limits s below =
     (length-of-written-table limits s) (length-of-written-store limits s) below
 
 -- What a search finds is answered as the plain tree replies.
-pub answer-of-held : (h : Held) (w : Walk) (s : State)
-    → answerOf h (visitsOf w) (placesOf w) ≡ replyAnswer (afterSearch h s .reply) w
-answer-of-held absent w s = refl
-answer-of-held (found e) w s = refl
+pub answer-of-held : (h : Held) (below above : ℕ) (w : Walk) (s : State)
+    → answerOf h below above (visitsOf w) (placesOf w) ≡ replyAnswer (afterSearch h below above s .reply) w
+answer-of-held absent below above w s = refl
+answer-of-held (found e) below above w s = refl
 
 -- So is a walk that ends with it.
 answer-of-walk : (w : Walk) (f : Search) (places : ℕ) (s : State) → w ≡ ended f places
-    → walkAnswer w ≡ replyAnswer (afterSearch (f .result) s .reply) w
-answer-of-walk w f places s ends = rw ends (answer-of-held (f .result) (ended f places) s)
+    → walkAnswer w ≡ replyAnswer (afterSearch (f .result) (slotOf (f .below)) (slotOf (f .above)) s .reply) w
+answer-of-walk w f places s ends =
+    rw ends (answer-of-held (f .result) (slotOf (f .below)) (slotOf (f .above)) (ended f places) s)
 
 module _ (limits : Limits) (s : State) where
   -- where a state is written out
   abbrev Out : Memory
   Out = written limits s
 
-  -- A call that is no update leaves the state, and so the memory; an update leaves the new state, written out.
-  memory-of-held : (c : Call) (h : Held)
-      → memoryAfter limits Out (afterHeld (limits .slots) c h s .reply) (afterHeld (limits .slots) c h s .state)
-      ≡ written limits (afterHeld (limits .slots) c h s .state)
-  memory-of-held (search x) absent = refl
-  memory-of-held (search x) (found e) = refl
-  memory-of-held (insert x v) (found e) = refl
-  memory-of-held (delete x) absent = refl
-  memory-of-held (delete x) (found e) = refl
-  memory-of-held (insert x v) absent = by-room (leb (limits .slots) (size (s .tree)))
+  -- A search leaves the state, and so the memory.
+  memory-of-search : (h : Held) (below above : ℕ)
+      → memoryAfter limits Out (afterSearch h below above s .reply) (afterSearch h below above s .state)
+      ≡ written limits (afterSearch h below above s .state)
+  memory-of-search absent below above = refl
+  memory-of-search (found e) below above = refl
+
+  -- An insert leaves the new state, written out.
+  memory-of-insert : (x : Label) (v : ℕ) (h : Held)
+      → memoryAfter limits Out (afterInsert (limits .slots) h x v s .reply) (afterInsert (limits .slots) h x v s .state)
+      ≡ written limits (afterInsert (limits .slots) h x v s .state)
+  memory-of-insert x v (found e) = refl
+  memory-of-insert x v absent = by-room (leb (limits .slots) (size (s .tree)))
     where
       by-free : (freed : List ℕ)
           → memoryAfter limits Out (newEntry x v (s .tree) freed (s .high) .reply)
@@ -83,6 +88,22 @@ module _ (limits : Limits) (s : State) where
           ≡ written limits (insertIfRoom full x v s .state)
       by-room true = refl
       by-room false = by-free (s .freed)
+
+  -- So does a delete.
+  memory-of-delete : (x : Label) (h : Held)
+      → memoryAfter limits Out (afterDelete h x s .reply) (afterDelete h x s .state)
+      ≡ written limits (afterDelete h x s .state)
+  memory-of-delete x absent = refl
+  memory-of-delete x (found e) = refl
+
+  -- So does each call, by what its search found.
+  memory-of-call : (c : Call) (f : Search)
+      → memoryAfter limits Out (afterFullSearch (limits .slots) c f s .reply)
+      (afterFullSearch (limits .slots) c f s .state)
+      ≡ written limits (afterFullSearch (limits .slots) c f s .state)
+  memory-of-call (search x) f = memory-of-search (f .result) (slotOf (f .below)) (slotOf (f .above))
+  memory-of-call (insert x v) f = memory-of-insert x v (f .result)
+  memory-of-call (delete x) f = memory-of-delete x (f .result)
 
   -- what an update answers and leaves, by the tests of the label's length
   abbrev afterTests : Call → Walk → (empty long : Bool) → Outcome
@@ -102,12 +123,12 @@ module _ (limits : Limits) (s : State) where
   outcome-by-tests c w false false = λ i.
       record {
         answer = replyAnswer (afterLength false false (limits .slots) c s .reply) w;
-        memory = memory-of-held c (fullSearch (soughtBy c) (s .tree) .result) i;
+        memory = memory-of-call c (fullSearch (soughtBy c) (s .tree)) i;
       }
 
   -- A search is refused by the tests, or answered by its walk.
   answer-by-tests : (x : Label) (w : Walk) (empty long : Bool)
-      → walkAnswer w ≡ replyAnswer (afterSearch (fullSearch x (s .tree) .result) s .reply) w
+      → walkAnswer w ≡ replyAnswer (afterFullSearch (limits .slots) (search x) (fullSearch x (s .tree)) s .reply) w
       → answerBy (line empty 3 (line long 4 pass)) (walkAnswer w)
       ≡ replyAnswer (afterLength empty long (limits .slots) (search x) s .reply) w
   answer-by-tests x w true long walked = refl

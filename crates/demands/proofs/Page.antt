@@ -4,6 +4,7 @@
 -- page-breaks: one node more breaks a walk. page-refuses-hub: the hub's table is refused by 1.
 -- page-one-name, page-spelling-stays: spellings of one name.
 -- page-tie-saves: the places that the first line of the search steps saves.
+-- page-true-neighbours: who stands next to a missing label.
 use native.Mathlib.Omega.{arith}
 use Rattle.types.specs.Sizes.{hub, page}
 use Rattle.tables.proofs.Depths.{page-depth}
@@ -13,6 +14,7 @@ use Rattle.demands.specs.Counts.{CountsWithin, BreaksAfter}
 use Rattle.demands.specs.OtherMemory.{RefusesTableOf}
 use Rattle.demands.specs.Spellings.{OneName, SpellingStays}
 use Rattle.demands.specs.Ties.{TieSaves}
+use Rattle.demands.specs.NextTo.{TrueNeighbours}
 use Rattle.demands.proofs.CostRule.{cost-rule}
 use Rattle.demands.proofs.OrderedMap.{ordered-map}
 use Rattle.demands.proofs.Counts.{counts-within}
@@ -21,6 +23,7 @@ use Rattle.demands.proofs.OtherMemory.{wrong-table-refused}
 use Rattle.demands.proofs.OneName.{one-name}
 use Rattle.demands.proofs.Spellings.{spelling-stays}
 use Rattle.demands.proofs.Ties.{tie-saves}
+use Rattle.demands.proofs.NextTo.{true-neighbours}
 
 -- Demand 2 at the page.
 pub page-ordered-map : OrderedMap page
@@ -56,3 +59,7 @@ page-spelling-stays = spelling-stays page page-depth
 -- On a sound table of the page, the walk before M-106 examined a place more at each node where its line applies.
 pub page-tie-saves : TieSaves page
 page-tie-saves = tie-saves page page-depth
+
+-- On a sound table of the page, the slots beside an absent label show the map's true neighbours.
+pub page-true-neighbours : TrueNeighbours page
+page-true-neighbours = true-neighbours page page-depth

@@ -71,7 +71,7 @@ outcome-stays (refuse other) m o number past e = refl
 reply-stays : (m : Memory) (w : Walk) (r : Reply) (s : State) (number : ℕ) → replyAnswer r w ≡ refused number
     → memoryAfter hub m r s ≡ m
 reply-stays m w (plain.found-at slot value) s number e = refl
-reply-stays m w plain.not-held s number e = refl
+reply-stays m w (plain.not-held below above) s number e = refl
 reply-stays m w (plain.updated slot) s number e = clash cc
 reply-stays m w (plain.refused other) s number e = refl
 

@@ -5,6 +5,7 @@
 -- exact-search-fails: a search exact to the byte.
 -- compared-tie-fails, search-as-before-fails: a search that compares at the tie of case 6.
 -- ties-on-both-fail: a search with the line of the tie on side successor too.
+-- no-neighbours-fails, one-for-both-fails, exchanged-neighbours-fail: searches with other neighbours.
 -- no-one-count: two answers with unlike counts do not give one number.
 -- fixed-search-counts-fail, invented-search-counts-fail: searches with counts that are not those of the steps.
 use mathlib.Core.List.{List, [], _∷_}
@@ -22,6 +23,7 @@ use Rattle.cases.specs.Cases.{a, b, c, d, roster}
 use Rattle.demands.specs.Trials.{SearchVersion, MeetsSearch, NeverFinds, Count, visits, places, ofCounts}
 use Rattle.demands.specs.Trials.{countIn, countOf, SearchesAnswer, SearchesCount, SkipsFirst, StopsAtZero}
 use Rattle.demands.specs.Trials.{FindsExactly, AnswersCaseSix, SearchesAsBefore, TiesOnBoth}
+use Rattle.demands.specs.Trials.{NeighboursZero, OneForBoth, exchanged, NeighboursExchanged}
 use Rattle.demands.proofs.Computed.{after, fair-one, fair-two, searched, onlyA, capital, shown}
 use Rattle.demands.proofs.Computed.{small-is-not-capital, sidedTable, sidedStore, sided-words, sided-bytes}
 use Rattle.demands.proofs.CountsGiven.{search-counts}
@@ -44,9 +46,10 @@ fixed-search-fails answer f fixed meets =
     let fixed-now = fixed (after onlyA .table) (after onlyA .store) (a ∷ []) (fair-one onlyA) in
     clash (cc (answered f meets [] (a ∷ []), shown .none-held, answered f meets onlyA (a ∷ []), shown .one-held))
 
--- 'Absent' at once fails, with any counts.
-pub absent-always-fails : (v q : ℕ) → ¬ MeetsSearch (λ table store x. absent v q)
-absent-always-fails v q = fixed-search-fails (absent v q) (λ table store x. absent v q) (λ table store x fair. refl)
+-- 'Absent' at once fails, with any neighbours and counts.
+pub absent-always-fails : (below above v q : ℕ) → ¬ MeetsSearch (λ table store x. absent below above v q)
+absent-always-fails below above v q =
+    fixed-search-fails (absent below above v q) (λ table store x. absent below above v q) (λ table store x fair. refl)
 
 -- Constant refusal fails, by any number.
 pub refused-always-fails : (number : ℕ) → ¬ MeetsSearch (λ table store x. refused number)
@@ -82,10 +85,10 @@ exact-search-fails f exact meets =
     small-is-not-capital (sym (shown .shown-small) ∙ same-bytes)
 
 -- A search that answers case 6 with 3 and 4 fails.
-pub compared-tie-fails : (f : SearchVersion) → AnswersCaseSix (absent 3 4) f → ¬ MeetsSearch f
+pub compared-tie-fails : (f : SearchVersion) → AnswersCaseSix (absent 4 3 3 4) f → ¬ MeetsSearch f
 unfolding after
 compared-tie-fails f answers meets =
-    let same : absent 3 4 ≡ absent 3 3 = sym answers ∙ answered f meets roster (d ∷ a ∷ []) ∙ shown .tie-now in
+    let same : absent 4 3 3 4 ≡ absent 4 3 3 3 = sym answers ∙ answered f meets roster (d ∷ a ∷ []) ∙ shown .tie-now in
     let places : _≡_ {A = ℕ} 4 3 = ap placesIn same in
     omega arith
   where
@@ -105,6 +108,27 @@ ties-on-both-fail f both meets =
     let other-way = both sidedTable sidedStore (a ∷ c ∷ []) sided-words sided-bytes
     (record { some = omega arith; short = omega arith }) in
     clash (cc (other-way, meets sidedTable sidedStore (a ∷ c ∷ []), shown .both-now, shown .both-sides))
+
+-- In case 6 "c", in slot 4, and "dd", in slot 3, stand next to "da". A search without neighbours fails there,
+pub no-neighbours-fails : (f : SearchVersion) → NeighboursZero f → ¬ MeetsSearch f
+no-neighbours-fails f zero meets =
+    let none-below = zero (after roster .table) (after roster .store) (d ∷ a ∷ []) (fair-two roster) 4 3 3 3
+    (answered f meets roster (d ∷ a ∷ []) ∙ shown .tie-now) .0 in
+    omega arith
+
+-- and so does one that gives one node for both,
+pub one-for-both-fails : (f : SearchVersion) → OneForBoth f → ¬ MeetsSearch f
+one-for-both-fails f same meets =
+    let one = same (after roster .table) (after roster .store) (d ∷ a ∷ []) (fair-two roster) 4 3 3 3
+    (answered f meets roster (d ∷ a ∷ []) ∙ shown .tie-now) in
+    omega arith
+
+-- and one with the two exchanged.
+pub exchanged-neighbours-fail : (f : SearchVersion) → NeighboursExchanged f → ¬ MeetsSearch f
+exchanged-neighbours-fail f other meets =
+    let given = other (after roster .table) (after roster .store) (d ∷ a ∷ []) (fair-two roster) in
+    let crossed : exchanged (searched roster (d ∷ a ∷ [])) ≡ absent 3 4 3 3 = ap exchanged (shown .tie-now) in
+    clash (cc (given, answered f meets roster (d ∷ a ∷ []), shown .tie-now, crossed))
 
 -- A search that gives one fixed number for its visits, or for its places, fails.
 pub fixed-search-counts-fail : (k : Count) (n : ℕ) (f : SearchVersion)

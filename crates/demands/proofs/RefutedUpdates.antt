@@ -75,7 +75,7 @@ pub refused-inserts-fail : (number : ℕ) (f : UpdateVersion) → InsertsRefused
 refused-inserts-fail number f refuses meets =
     let none = shown .held-fresh in
     let refusal =
-    refuses (a ∷ []) 5 (after [] .table) (after [] .store) (fair-one []) 0 0 (shown .none-held) (omega arith) in
+    refuses (a ∷ []) 5 (after [] .table) (after [] .store) (fair-one []) 0 0 0 0 (shown .none-held) (omega arith) in
     clash (cc (refusal, reply f meets [] (insert (a ∷ []) 5), shown .first-in))
 
 -- 'Full' at once fails.

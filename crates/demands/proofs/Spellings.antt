@@ -37,7 +37,7 @@ use Rattle.demands.proofs.OrderedMap.{ordered-map}
 -- an answer that is refused by a number
 said-refused : (a : Answer) (n : ℕ) → said a ≡ refused-by n → a ≡ refused n
 said-refused (found slot value visits places) n says = clash cc
-said-refused (absent visits places) n says = clash cc
+said-refused (absent below above visits places) n says = clash cc
 said-refused (updated slot visits places) n says = clash cc
 said-refused (listed count) n says = clash cc
 said-refused done n says = clash cc
@@ -47,7 +47,7 @@ said-refused (refused number) n says = cc
 settled-refused : (limits : Limits) (m : Memory) (w : Walk) (r : Reply) (s : State) (n : ℕ)
     → replyAnswer r w ≡ refused n → memoryAfter limits m r s ≡ m
 settled-refused limits m w (plain.found-at slot value) s n says = refl
-settled-refused limits m w plain.not-held s n says = refl
+settled-refused limits m w (plain.not-held below above) s n says = refl
 settled-refused limits m w (plain.updated slot) s n says = clash cc
 settled-refused limits m w (plain.refused number) s n says = refl
 

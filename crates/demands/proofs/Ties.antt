@@ -1,15 +1,15 @@
 -- What the first line of the search steps saves, on a sound table and store.
 -- ThreeWalks: the walk now, the walk that counts the nodes where the line applies, and the walk before.
 -- walks-into: these walks into each subtree. tie-saves: what the line saves.
-use mathlib.Core.List.{List, []}
+use mathlib.Core.List.{List}
 use mathlib.Core.Path.{_≡_, refl, sym, ap, _∙_}
 use Prim.Native.Nat.{ℕ, zero, suc, _+_, _≤_}
 use native.Mathlib.Omega.{arith}
 use Rattle.types.specs.declared.Limits.{Limits}
 use Rattle.labels.specs.Labels.{Label, Comparison}
 use Rattle.labels.specs.Neighbours.{Neighbour, none-below, held, none-above}
-use Rattle.trees.specs.Trees.{Entry, Tree, empty, node}
-use Rattle.trees.specs.Searches.{Held, absent, found, Search, visit}
+use Rattle.trees.specs.Trees.{Entry, Tree, empty, node, Side, left, right}
+use Rattle.trees.specs.Searches.{Search, nothingVisited, visit, stopAt}
 use Rattle.trees.specs.Heights.{height, Deepest}
 use Rattle.trees.specs.Plain.{State}
 use Rattle.trees.specs.Valid.{Valid}
@@ -53,78 +53,77 @@ same-walks a b c rest =
       before-ends = c ∙ rest .before-ends;
     }
 
--- walks that are over
-abbrev over : Held → Search
-over result = record { visited = []; result = result }
-
-over-walks : (result : Held) → ThreeWalks (ended (over result) 0) (ended (over result) 0) (ended (over result) 0)
-over-walks result =
+-- walks that are over, after such places
+over-walks : (search : Search) (examined n : ℕ)
+    → ThreeWalks (ended search examined) (ended search n) (ended search (examined + n))
+over-walks search examined n =
     record {
-      search = over result;
-      places = 0;
-      ties = 0;
+      search = search;
+      places = examined;
+      ties = n;
       now-ends = refl;
       counting-ends = refl;
       before-ends = refl;
     }
 
 -- walks that visit a node first
-visited-walks : {now counting before : Walk} (e : Entry) (examined n : ℕ) → ThreeWalks now counting before
-    → ThreeWalks (visitThen e examined now) (visitThen e n counting) (visitThen e (examined + n) before)
-visited-walks e examined n rest =
+visited-walks : {now counting before : Walk} (side : Side) (e : Entry) (examined n : ℕ) → ThreeWalks now counting before
+    → ThreeWalks (visitThen side e examined now) (visitThen side e n counting) (visitThen side e (examined + n) before)
+visited-walks side e examined n rest =
     record {
-      search = visit e (rest .search);
+      search = visit side e (rest .search);
       places = examined + rest .places;
       ties = n + rest .ties;
-      now-ends = ap (visitThen e examined) (rest .now-ends);
-      counting-ends = ap (visitThen e n) (rest .counting-ends);
+      now-ends = ap (visitThen side e examined) (rest .now-ends);
+      counting-ends = ap (visitThen side e n) (rest .counting-ends);
       before-ends =
-          ap (visitThen e (examined + n)) (rest .before-ends) ∙ ap (ended (visit e (rest .search))) (omega arith);
+          ap (visitThen side e (examined + n)) (rest .before-ends)
+          ∙ ap (ended (visit side e (rest .search))) (omega arith);
     }
 
 -- walks by one step, with a place more in the last for each that the second has
 walks-by : {p s : Neighbour} {x : Label} {P S : ℕ} {r : Comparison} {step : Step} (e : Entry) (n : ℕ)
-    (left counting-left left-before right counting-right right-before : ℕ → ℕ → Walk)
+    (onLeft counting-left left-before onRight counting-right right-before : ℕ → ℕ → Walk)
     → ((P' S' : ℕ) → Sought p x (held (e .label)) P' S'
-    → ThreeWalks (left P' S') (counting-left P' S') (left-before P' S'))
+    → ThreeWalks (onLeft P' S') (counting-left P' S') (left-before P' S'))
     → ((P' S' : ℕ) → Sought (held (e .label)) x s P' S'
-    → ThreeWalks (right P' S') (counting-right P' S') (right-before P' S'))
+    → ThreeWalks (onRight P' S') (counting-right P' S') (right-before P' S'))
     → Goes p x (e .label) s P S r step
-    → ThreeWalks (walkBy step e left right) (walkBy (examining n step) e counting-left counting-right)
+    → ThreeWalks (walkBy step e onLeft onRight) (walkBy (examining n step) e counting-left counting-right)
     (walkBy (examiningMore n step) e left-before right-before)
 walks-by e n _ _ _ _ _ _ on-left on-right (goes-left i P' S' examined sought raised) =
-    visited-walks e examined n (on-left P' S' sought)
+    visited-walks left e examined n (on-left P' S' sought)
 walks-by e n _ _ _ _ _ _ on-left on-right (goes-stop i examined raised) =
-    visited-walks e examined n (over-walks (found e))
+    over-walks (stopAt e) examined n
 walks-by e n _ _ _ _ _ _ on-left on-right (goes-right i P' S' examined sought raised) =
-    visited-walks e examined n (on-right P' S' sought)
+    visited-walks right e examined n (on-right P' S' sought)
 
 module _ (limits : Limits) (table store : List ℕ) (x : Label) where
   -- the walk into a subtree by a rule
-  abbrev walk : StepRule → (left link p s : ℕ) → Walk
+  abbrev walk : StepRule → (remaining link p s : ℕ) → Walk
   walk step = stepsBy step limits table store x
 
   -- the three walks into a subtree
-  walks-into : (t : Tree) (left : ℕ) (p s : Neighbour) (P S : ℕ) → Between p s t
-      → Represents limits table store p s t → height t ≤ left → Sought p x s P S
-      → ThreeWalks (walk stepAt left (linkOf t) P S) (walk tieStep left (linkOf t) P S)
-      (walk linesAt left (linkOf t) P S)
-  walks-into empty left p s P S between represented fits sought =
-      same-walks (steps-at-missing stepAt limits table store x left P S)
-      (steps-at-missing tieStep limits table store x left P S)
-      (steps-at-missing linesAt limits table store x left P S) (over-walks absent)
+  walks-into : (t : Tree) (remaining : ℕ) (p s : Neighbour) (P S : ℕ) → Between p s t
+      → Represents limits table store p s t → height t ≤ remaining → Sought p x s P S
+      → ThreeWalks (walk stepAt remaining (linkOf t) P S) (walk tieStep remaining (linkOf t) P S)
+      (walk linesAt remaining (linkOf t) P S)
+  walks-into empty remaining p s P S between represented fits sought =
+      same-walks (steps-at-missing stepAt limits table store x remaining P S)
+      (steps-at-missing tieStep limits table store x remaining P S)
+      (steps-at-missing linesAt limits table store x remaining P S) (over-walks nothingVisited 0 0)
   walks-into (node l e r) zero p s P S between represented fits sought = absurd (omega arith)
-  walks-into (node l e r) (suc left) p s P S between represented fits sought =
-      same-walks (steps-at-node stepAt limits table store x (represented .0) left P S)
-      (steps-at-node tieStep limits table store x (represented .0) left P S)
-      (steps-at-node linesAt limits table store x (represented .0) left P S
-      ∙ ap (λ (step : Step). walkBy step e (walk linesAt left (linkOf l)) (walk linesAt left (linkOf r)))
+  walks-into (node l e r) (suc remaining) p s P S between represented fits sought =
+      same-walks (steps-at-node stepAt limits table store x (represented .0) remaining P S)
+      (steps-at-node tieStep limits table store x (represented .0) remaining P S)
+      (steps-at-node linesAt limits table store x (represented .0) remaining P S
+      ∙ ap (λ (step : Step). walkBy step e (walk linesAt remaining (linkOf l)) (walk linesAt remaining (linkOf r)))
       (lines-at-node sought (between .above) (between .below)))
       (walks-by e (tiesAt (sideWithin p (e .label) s) (placeWithin p (e .label) s) P S)
-      (walk stepAt left (linkOf l)) (walk tieStep left (linkOf l)) (walk linesAt left (linkOf l))
-      (walk stepAt left (linkOf r)) (walk tieStep left (linkOf r)) (walk linesAt left (linkOf r))
-      (λ P' S'. walks-into l left p (held (e .label)) P' S' (between .on-left) (represented .1) (omega arith))
-      (λ P' S'. walks-into r left (held (e .label)) s P' S' (between .on-right) (represented .2) (omega arith))
+      (walk stepAt remaining (linkOf l)) (walk tieStep remaining (linkOf l)) (walk linesAt remaining (linkOf l))
+      (walk stepAt remaining (linkOf r)) (walk tieStep remaining (linkOf r)) (walk linesAt remaining (linkOf r))
+      (λ P' S'. walks-into l remaining p (held (e .label)) P' S' (between .on-left) (represented .1) (omega arith))
+      (λ P' S'. walks-into r remaining (held (e .label)) s P' S' (between .on-right) (represented .2) (omega arith))
       (step-goes sought (between .above) (between .below)))
 
 module _ (limits : Limits) (deepest : Deepest (limits .slots) (limits .depth)) where

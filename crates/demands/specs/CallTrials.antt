@@ -57,7 +57,7 @@ pub record SpoilsList (l : Listing) (list : List ℕ) : Type 0 where
 -- what is lent, with zeros in its place where the answer is a refusal
 abbrev pub zerosIfRefused : Answer → List ℕ → List ℕ
 zerosIfRefused (found slot value visits places) lent = lent
-zerosIfRefused (absent visits places) lent = lent
+zerosIfRefused (absent below above visits places) lent = lent
 zerosIfRefused (updated slot visits places) lent = lent
 zerosIfRefused (listed count) lent = lent
 zerosIfRefused done lent = lent

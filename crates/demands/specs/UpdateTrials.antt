@@ -27,7 +27,7 @@ DeletesAnswer a f = (x : Label) (table store : List ℕ) → Fair table store x 
 abbrev pub InsertsRefused : ℕ → UpdateVersion → Type 0
 InsertsRefused number f =
     (x : Label) (value : ℕ) (table store : List ℕ) → Fair table store x
-    → (v q : ℕ) → searchOutcome hub table store x ≡ absent v q → labelsHeld table < hub .slots
+    → (below above v q : ℕ) → searchOutcome hub table store x ≡ absent below above v q → labelsHeld table < hub .slots
     → f (insert x value) table store .answer ≡ refused number
 
 abbrev pub DeletesRefused : ℕ → UpdateVersion → Type 0
@@ -84,7 +84,7 @@ lastNumbers table store x = numbersAt table store x (hub .depth) (rootLink table
 -- the side of an updated slot is this one
 abbrev pub SideIs : ℕ → Memory → Answer → Type 0
 SideIs side m (found slot value v q) = Unit {0}
-SideIs side m (absent v q) = Unit {0}
+SideIs side m (absent below above v q) = Unit {0}
 SideIs side m (updated slot v q) = rowAt (m .table) slot .side ≡ side
 SideIs side m (listed count) = Unit {0}
 SideIs side m done = Unit {0}

@@ -12,7 +12,7 @@ use Rattle.trees.specs.Trees.{Entry, size}
 use Rattle.trees.specs.Heights.{Deepest}
 use Rattle.trees.specs.Searches.{Held, absent, found, fullSearch}
 use Rattle.trees.specs.Plain as plain
-use Rattle.trees.specs.Plain.{State, After, afterHeld, newEntry, insertIfRoom}
+use Rattle.trees.specs.Plain.{State, After, newEntry, insertIfRoom, afterInsert, afterDelete}
 use Rattle.trees.specs.Updates.{deleted}
 use Rattle.trees.specs.Valid.{Valid}
 use Rattle.trees.proofs.SlotCounts.{slot-of-found}
@@ -78,22 +78,22 @@ module _ (limits : Limits) (deepest : Deepest (limits .slots) (limits .depth)) (
 
     -- An insert is settled by what the search found.
     insert-settled : (value : ℕ) (h : Held) → fullSearch x (s .tree) .result ≡ h
-        → insertOutcome limits Table Store x value ≡ outcomeOf (afterHeld (limits .slots) (plain.insert x value) h s)
+        → insertOutcome limits Table Store x value ≡ outcomeOf (afterInsert (limits .slots) h x value s)
     unfolding insertOutcome
     insert-settled value h result =
         update-outcome limits s deepest valid (plain.insert x value)
         ∙ ap outcomeOf (step-of-fitting (limits .slots) (limits .width) (plain.insert x value) s
         (fits .some) (fits .short)
-        ∙ ap (λ (h : Held). afterHeld (limits .slots) (plain.insert x value) h s) result)
+        ∙ ap (λ (h : Held). afterInsert (limits .slots) h x value s) result)
 
     -- So is a delete.
     delete-settled : (h : Held) → fullSearch x (s .tree) .result ≡ h
-        → deleteOutcome limits Table Store x ≡ outcomeOf (afterHeld (limits .slots) (plain.delete x) h s)
+        → deleteOutcome limits Table Store x ≡ outcomeOf (afterDelete h x s)
     unfolding deleteOutcome
     delete-settled h result =
         update-outcome limits s deepest valid (plain.delete x)
         ∙ ap outcomeOf (step-of-fitting (limits .slots) (limits .width) (plain.delete x) s (fits .some) (fits .short)
-        ∙ ap (λ (h : Held). afterHeld (limits .slots) (plain.delete x) h s) result)
+        ∙ ap (λ (h : Held). afterDelete h x s) result)
 
     -- A node that was found has a slot of at least 1.
     found-slot-positive : (e : Entry) → fullSearch x (s .tree) .result ≡ found e → 1 ≤ e .slot

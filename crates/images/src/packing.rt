@@ -1,7 +1,7 @@
 // An answer in one number, and its parts: from the lowest bits 4 of kind, 12 of places, 16 of visits, then 16 and 16.
 
-// The kinds: a refusal's number; slot and value, with both counts; both counts; the slot, with both counts; nothing;
-// how many slots; how many bytes.
+// The kinds: a refusal's number; slot and value, with both counts; the slots of the nearest smaller and the nearest
+// larger label, with both counts; the slot, with both counts; nothing; how many slots; how many bytes.
 pub const REFUSED: usize = 0;
 
 pub const FOUND: usize = 1;

@@ -4,7 +4,7 @@
 -- `tested-row`: a link that the first part lets through has a row.
 -- `live`: a link that the whole test lets through is that of a node.
 -- `son-read`, `son-of-row`: a son's link is read by its index in the row.
--- `live-row`, `live-side`, `live-slot`: its row can be read, its side is 0 or 1, and its label can be compared.
+-- `live-row`, `live-slot`: its row can be read, and its label can be compared.
 use mathlib.Core.Path.{_≡_, refl, sym, _∙_}
 use mathlib.Core.Logic.{_≢_}
 use mathlib.Core.List.{List}
@@ -188,10 +188,6 @@ module _ (limits : Limits) (table : List ℕ) (link remaining : ℕ) (tested : B
         let node = live in
         let words = sizes .words in
         record { low = node .some; high = omega arith }
-
-    -- its side is 0 or 1
-    pub live-side : (row : Row) → row ≡ rowAt table link → row .side < 2
-    live-side row read = let good : GoodRow limits row = rw read (live .good) in let sided = good .sided in omega arith
 
     -- its label can be compared
     pub live-slot : (row : Row) → row ≡ rowAt table link → AtRow limits store link row

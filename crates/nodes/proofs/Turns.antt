@@ -1,12 +1,16 @@
 -- The step at one node, by its turn.
+-- `turn-right`, `turn-left`: the turn where the walk has not reached the place.
+-- `onward-right`, `onward-left`: the step to a son.
 -- `decide-smaller`, `decide-same`, `decide-larger`: the step after a comparison, by its order.
+-- `decided-smaller`, `decided-same`, `decided-larger`: so the code's.
 -- `compared-row`, `row-inside`: the bytes compared are the label of the slot, which lies within the store.
--- `row-left`, `row-right`, `row-compared`: the step at the node, by its turn.  `after-step`: the spot after it.
-use mathlib.Core.Path.{_≡_, refl, _∙_}
+-- `row-left`, `row-right`, `row-compared`: the step at the node, by its turn.
+-- `visit-left`, `visit-right`, `visit-compared`: so the code's.  `after-step`: the spot after it.
+use mathlib.Core.Path.{_≡_, refl, ap, _∙_}
 use mathlib.Core.Logic.{_≢_}
 use mathlib.Core.List.{List}
 use mathlib.Core.Bool.{Bool, true, false, cond}
-use Prim.Native.Nat.{ℕ, zero, suc, _+_, _-_, _≤_, Ordering, compare·suc-zero}
+use Prim.Native.Nat.{ℕ, zero, suc, _+_, _-_, _≤_, Ordering}
 use native.Mathlib.Numerals.{add-one}
 use native.Mathlib.Omega.{arith}
 use lib.Dec.{ltb}
@@ -19,6 +23,7 @@ use Rattle.labels.proofs.Numbers.{Ordered, is-lt, is-eq, is-gt, ordered}
 use Rattle.compares.specs.declared.Compared.{Compared}
 use Rattle.orders.specs.declared.Order.the-variants.{Smaller, Same, Larger}
 use Rattle.compares.specs.Compares.{comparisonOf}
+use Rattle.trees.specs.Valid.{oneIf}
 use Rattle.tables.specs.Words.{labelAt}
 use Rattle.tables.specs.Steps.{Step, go-left, go-right, stop, compareStep, predecessorStep, successorStep, isTie}
 use Rattle.tables.specs.Steps.{stepAt}
@@ -29,7 +34,27 @@ use Rattle.nodes.specs.declared.Turn.the-variants.{Left, Right, Compare}
 use Rattle.tables.proofs.Offsets.{part-within}
 use Rattle.words.specs.Parts.{LabelInside, Shows}
 use Rattle.nodes.specs.Bounds.{AtRow}
-use Rattle.nodes.specs.Nodes.{reachedOn, turnOf, rowStep, sonOf, spotAfter}
+use Rattle.nodes.specs.Nodes.{reachedOn, turnOf, stepOnward, stepFrom, rowStep, sonOf, spotAfter}
+
+-- the step to a son of the node in a slot
+module _ (w : Spot) (slot : ℕ) (right : Bool) (p s examined : ℕ) where
+  abbrev onwardWith : (below above : ℕ) → code.Step
+  onwardWith below above =
+      record {
+        found = false;
+        right = right;
+        p = p;
+        s = s;
+        below = below;
+        above = above;
+        examined = examined;
+      }
+
+  pub onward-right : right ≡ true → onwardWith slot (w .above) ≡ stepOnward w slot right p s examined
+  onward-right is = rw is
+
+  pub onward-left : right ≡ false → onwardWith (w .below) slot ≡ stepOnward w slot right p s examined
+  onward-left is = rw is
 
 -- the step after a comparison c that started at place d, by its order
 module _ (p s d : ℕ) (c : Compared) where
@@ -44,6 +69,22 @@ module _ (p s d : ℕ) (c : Compared) where
 
   pub decide-larger : c .order ≡ Larger → go-right (c .place) s examined ≡ compareStep (comparisonOf c) d p s
   decide-larger e = rw (e, add-one (c .place))
+
+-- the code's step after it
+module _ (w : Spot) (slot d : ℕ) (c : Compared) (r : code.Step) where
+  abbrev decision : code.Step
+  decision = stepFrom w slot (compareStep (comparisonOf c) d (w .p) (w .s))
+
+  pub decided-smaller : c .order ≡ Smaller → r ≡ stepOnward w slot false (w .p) (c .place) (c .place + 1 - d)
+      → r ≡ decision
+  decided-smaller o is = is ∙ ap (stepFrom w slot) (decide-smaller (w .p) (w .s) d c o)
+
+  pub decided-same : c .order ≡ Same → r ≡ stepFrom w slot (stop (c .place + 1 - d)) → r ≡ decision
+  decided-same o is = is ∙ ap (stepFrom w slot) (decide-same (w .p) (w .s) d c o)
+
+  pub decided-larger : c .order ≡ Larger → r ≡ stepOnward w slot true (c .place) (w .s) (c .place + 1 - d)
+      → r ≡ decision
+  decided-larger o is = is ∙ ap (stepFrom w slot) (decide-larger (w .p) (w .s) d c o)
 
 -- a comparison with what the store shows is one with the slot's label
 pub compared-row : (limits : Limits) (store held : RefT (List ℕ)) (x : Label) (link : ℕ) (row : Row) (c : Compared)
@@ -96,13 +137,23 @@ module _ (d p s : ℕ) (compared : Step) where
       let apart : s ≢ d = λ e. omega arith in rw (ne-eqb s d apart, lt-ltb d s more)
 
 -- a node's step is its turn, taken
-turn-step : (x c : Label) (side d p s : ℕ)
+turn-step : (x c : Label) (side d p s : ℕ) → side ≤ 1
     → stepAt x c side d p s
     ≡ takenBy (turnOf side d (reachedOn side p s) s) (compareStep (compareFrom d x c) d p s) p s
 unfolding turnOf
-turn-step x c zero d p s = predecessor-turn d p s (compareStep (compareFrom d x c) d p s) (ordered p d)
-turn-step x c (suc side) d p s =
-    rw compare·suc-zero (successor-turn d p s (compareStep (compareFrom d x c) d p s) (ordered s d))
+turn-step x c zero d p s sided = predecessor-turn d p s (compareStep (compareFrom d x c) d p s) (ordered p d)
+turn-step x c (suc zero) d p s sided = successor-turn d p s (compareStep (compareFrom d x c) d p s) (ordered s d)
+turn-step x c (suc (suc side)) d p s sided = absurd (omega arith)
+
+-- the turn of a walk that has not reached the place, by whether it is beyond it
+module _ (side d reached s beyond : ℕ) (apart : reached ≢ d) (test : beyond ≡ oneIf (ltb d reached)) where
+  pub turn-right : beyond ≡ side → Right ≡ turnOf side d reached s
+  unfolding turnOf
+  turn-right same = rw (ne-eqb reached d apart, ← test, eq-eqb beyond side same)
+
+  pub turn-left : beyond ≢ side → Left ≡ turnOf side d reached s
+  unfolding turnOf
+  turn-left other = rw (ne-eqb reached d apart, ← test, ne-eqb beyond side other)
 
 -- the turn by the number that each side goes by
 pub turn-by-predecessor : (side d p s : ℕ) (t : Turn) → side ≡ 0 → t ≡ turnOf side d p s
@@ -115,7 +166,8 @@ turn-by-successor side d p s t other so = rw (ne-eqb side 0 other) so
 
 -- the step at the node in a slot, whose row is read and whose turn is t
 module _ (limits : Limits) (store : List ℕ) (x : Label) (link : ℕ) (row : Row) (p s reached : ℕ) (t : Turn)
-    (goes : reached ≡ reachedOn (row .side) p s) (turns : t ≡ turnOf (row .side) (row .place) reached s) where
+    (sided : row .side ≤ 1) (goes : reached ≡ reachedOn (row .side) p s)
+    (turns : t ≡ turnOf (row .side) (row .place) reached s) where
   abbrev here : Step
   here = rowStep limits store x link row p s
 
@@ -125,7 +177,7 @@ module _ (limits : Limits) (store : List ℕ) (x : Label) (link : ℕ) (row : Ro
   -- it is the turn, taken
   row-step : takenBy t (compareStep (compareFrom (row .place) x label) (row .place) p s) p s ≡ here
   unfolding rowStep
-  row-step = rw (turn-step, ← goes, ← turns)
+  row-step = rw (turn-step x label (row .side) (row .place) p s sided, ← goes, ← turns)
 
   pub row-left : t ≡ Left → go-left p s 0 ≡ here
   row-left e = rw e at row-step
@@ -137,8 +189,39 @@ module _ (limits : Limits) (store : List ℕ) (x : Label) (link : ℕ) (row : Ro
       → r ≡ compareStep (comparisonOf c) (row .place) p s → r ≡ here
   row-compared c r e found so = so ∙ rw found (rw e at row-step)
 
+-- the code's step at the node where the walk stands
+module _ (limits : Limits) (store : List ℕ) (x : Label) (w : Spot) (row : Row) (t : Turn)
+    (sided : row .side ≤ 1)
+    (turns : t ≡ turnOf (row .side) (row .place) (reachedOn (row .side) (w .p) (w .s)) (w .s)) (r : code.Step) where
+  abbrev fromHere : code.Step
+  fromHere = stepFrom w (w .link) (rowStep limits store x (w .link) row (w .p) (w .s))
+
+  pub visit-left : t ≡ Left → r ≡ stepOnward w (w .link) false (w .p) (w .s) 0 → r ≡ fromHere
+  visit-left e is =
+      is ∙ ap (stepFrom w (w .link)) (row-left limits store x (w .link) row (w .p) (w .s) _ t sided refl turns e)
+
+  pub visit-right : t ≡ Right → r ≡ stepOnward w (w .link) true (w .p) (w .s) 0 → r ≡ fromHere
+  visit-right e is =
+      is ∙ ap (stepFrom w (w .link)) (row-right limits store x (w .link) row (w .p) (w .s) _ t sided refl turns e)
+
+  pub visit-compared : (c : Compared) → t ≡ Compare
+      → comparisonOf c ≡ compareFrom (row .place) x (labelAt limits store (w .link) (row .len))
+      → r ≡ stepFrom w (w .link) (compareStep (comparisonOf c) (row .place) (w .p) (w .s)) → r ≡ fromHere
+  visit-compared c e found is =
+      is
+      ∙ ap (stepFrom w (w .link))
+      (row-compared limits store x (w .link) row (w .p) (w .s) _ t sided refl turns c _ e found refl)
+
 -- the spot after a step into the son at the link next
 pub after-step : (w : Spot) (row : Row) (t : code.Step) (next : ℕ) → next ≡ sonOf row (t .right)
-    → record { link = next; p = t .p; s = t .s; visits = w .visits + 1; places = w .places + t .examined }
+    → record {
+      link = next;
+      p = t .p;
+      s = t .s;
+      below = t .below;
+      above = t .above;
+      visits = w .visits + 1;
+      places = w .places + t .examined;
+    }
     ≡ spotAfter w row t
 after-step w row t next e = rw e

@@ -6,6 +6,7 @@ use lib.Dec.{ltb, eqb}
 use Rattle.types.specs.declared.Limits.{Limits}
 use Rattle.types.specs.declared.Row.{Row}
 use Rattle.labels.specs.Labels.{Label}
+use Rattle.trees.specs.Valid.{oneIf}
 use Rattle.tables.specs.Words.{rowAt, labelAt}
 use Rattle.tables.specs.Steps as definition
 use Rattle.tables.specs.Steps.{go-left, go-right, stop, isBad, stepAt}
@@ -31,17 +32,46 @@ reachedOn side p s = cond (eqb side 0) p s
 -- that is d, S is above d only on side predecessor: side successor goes by S itself.
 unfoldable pub turnOf : (side d reached s : ℕ) → Turn
 turnOf side d reached s =
-    cond (eqb reached d) (cond (ltb d s) Right Compare)
-    (cond (eqb side 0) (cond (ltb d reached) Left Right) (cond (ltb d reached) Right Left))
+    cond (eqb reached d) (cond (ltb d s) Right Compare) (cond (eqb (oneIf (ltb d reached)) side) Right Left)
 
-abbrev pub stepBy : (found right : Bool) → (p s examined : ℕ) → definition.Step
-stepBy true right p s examined = stop examined
-stepBy false true p s examined = go-right p s examined
-stepBy false false p s examined = go-left p s examined
+-- ---- M-107 of document 02: "the last nodes where the walk went right and left"
 
--- the step that the code's step stands for
-abbrev pub stepOf : Step → definition.Step
-stepOf t = stepBy (t .found) (t .right) (t .p) (t .s) (t .examined)
+-- the slots of the nearest smaller and the nearest larger node, after the walk went past the node in a slot
+abbrev pub belowAfter : (right : Bool) (slot below : ℕ) → ℕ
+belowAfter right slot below = cond right slot below
+
+abbrev pub aboveAfter : (right : Bool) (slot above : ℕ) → ℕ
+aboveAfter right slot above = cond right above slot
+
+-- the step at w to a son of the node in a slot
+abbrev pub stepOnward : Spot → (slot : ℕ) (right : Bool) (p s examined : ℕ) → Step
+stepOnward w slot right p s examined =
+    record {
+      found = false;
+      right = right;
+      p = p;
+      s = s;
+      below = belowAfter right slot (w .below);
+      above = aboveAfter right slot (w .above);
+      examined = examined;
+    }
+
+-- the code's step at w and the node in a slot, with the slots that it yields
+abbrev pub stepFrom : Spot → (slot : ℕ) → definition.Step → Step
+stepFrom w slot (go-left p s examined) = stepOnward w slot false p s examined
+stepFrom w slot (go-right p s examined) = stepOnward w slot true p s examined
+stepFrom w slot (stop examined) =
+    record {
+      found = true;
+      right = false;
+      p = w .p;
+      s = w .s;
+      below = w .below;
+      above = w .above;
+      examined = examined;
+    }
+
+-- ----
 
 -- the step at the node in a slot, of which the row was read
 unfoldable pub rowStep : Limits → (store : List ℕ) → Label → (link : ℕ) → Row → (p s : ℕ) → definition.Step
@@ -63,6 +93,8 @@ spotAfter w row t =
       link = sonOf row (t .right);
       p = t .p;
       s = t .s;
+      below = t .below;
+      above = t .above;
       visits = w .visits + 1;
       places = w .places + t .examined;
     }

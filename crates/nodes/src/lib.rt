@@ -1,6 +1,6 @@
 // The step at one node, in parts: whether there is a node to visit, where its place and side send the walk, the
-// comparison with its label, and where the walk stands after it. The search and the search of an update are made of
-// these parts.
+// comparison with its label, and where the walk stands after it, with the nearest nodes that it went past. The search
+// and the search of an update are made of these parts. Only `halts` and `son_at` read the table: all else takes a row.
 pub mod turning;
 
 use compares::Compared;
@@ -15,14 +15,19 @@ ghost use Rattle.compares.specs.Compares.{comparisonOf};
 ghost use Rattle.tables.specs.Words.{rowAt, labelAt};
 ghost use Rattle.tables.specs.Steps.{isBad, compareStep};
 ghost use Rattle.words.specs.Rows.{HasRow};
-ghost use Rattle.nodes.specs.Nodes.{numberBefore, haltsAt, reachedOn, turnOf, stepOf, rowStep, sonOf, spotAfter};
+ghost use Rattle.nodes.specs.Nodes.{numberBefore, haltsAt, reachedOn, turnOf, rowStep, sonOf, spotAfter};
+ghost use Rattle.nodes.specs.Nodes.{stepOnward, stepFrom};
 ghost use Rattle.nodes.specs.Bounds.{AtRow, AtPlace, CanTest, CanStep, Onward};
 
-// Where the search of an update stands: the next link, the numbers P and S of the search steps, and the counts so far.
+// Where the search of an update stands: the next link, the numbers P and S of the search steps, the slots of the last
+// nodes where it went right and left, which are the nearest smaller and the nearest larger one, 0 for none, and the
+// counts so far.
 pub struct Spot {
     pub link: usize,
     pub p: usize,
     pub s: usize,
+    pub below: u16,
+    pub above: u16,
     pub visits: usize,
     pub places: usize,
 }
@@ -35,13 +40,23 @@ pub enum Turn {
 }
 
 // What a node's step does there: the label is found, or the walk goes to the right son or else to the left one.
-// With it go P and S after the step, and the places that it examined.
+// With it go P and S after the step, the slots of the nearest smaller and larger node, and the places that it examined.
 pub struct Step {
     pub found: bool,
     pub right: bool,
     pub p: usize,
     pub s: usize,
+    pub below: u16,
+    pub above: u16,
     pub examined: usize,
+}
+
+// 1 for what is so, and else 0: the index of a side, and of a son's link in its row.
+pub fn one_if(so: bool) -> usize
+    ensures { λ r. ⌜ r ≡ oneIf so ⌝ }
+    ensures { λ r. ⌜ r ≤ 1 ⌝ }
+{
+    if so { 1 } else { 0 }
 }
 
 // The number before a place or a link; before 0, which is neither, the largest of all.
@@ -103,37 +118,55 @@ fn compare_by_table(limits: Limits, store: &[u8], label: &[u8], link: usize, row
     compares::by_table(label, held, row.place as usize)
 }
 
-// The step after a comparison that started at place d.
-fn decide(p: usize, s: usize, d: usize, c: Compared) -> Step
+// The step to a son of the node in this slot: right of the node it is the nearest smaller one, left of it the nearest
+// larger one.
+fn onward(spot: Spot, slot: u16, right: bool, p: usize, s: usize, examined: usize) -> Step
+    ensures { λ r. ⌜ r ≡ stepOnward spot slot right p s examined ⌝ }
+    ensures { λ r. ⌜ r .examined ≡ examined ⌝ }
+{
+    if right {
+        return Step {
+            found: false,
+            right,
+            p,
+            s,
+            below: slot,
+            above: spot.above,
+            examined,
+        };
+    }
+    Step {
+        found: false,
+        right,
+        p,
+        s,
+        below: spot.below,
+        above: slot,
+        examined,
+    }
+}
+
+// The step at the node in this slot after a comparison that started at place d.
+fn decide(spot: Spot, slot: u16, d: usize, c: Compared) -> Step
     requires { ⌜ AtPlace d c ⌝ }
-    ensures { λ r. ⌜ stepOf r ≡ compareStep (comparisonOf c) d p s ⌝ }
+    ensures { λ r. ⌜ r ≡ stepFrom spot slot (compareStep (comparisonOf c) d (spot .p) (spot .s)) ⌝ }
     ensures { λ r. ⌜ r .examined ≤ 4097 ⌝ }
 {
     let examined = c.place + 1 - d;
     let place = c.place;
     let order = c.order;
     match order {
-        Order::Smaller => Step {
-            found: false,
-            right: false,
-            p,
-            s: place,
-            examined,
-        },
+        Order::Smaller => onward(spot, slot, false, spot.p, place, examined),
         Order::Same => Step {
             found: true,
             right: false,
-            p,
-            s,
+            p: spot.p,
+            s: spot.s,
+            below: spot.below,
+            above: spot.above,
             examined,
         },
-        Order::Larger => Step {
-            found: false,
-            right: true,
-            p: place,
-            s,
-            examined,
-        },
+        Order::Larger => onward(spot, slot, true, place, spot.s, examined),
     }
 }
 
@@ -153,28 +186,19 @@ fn turn_at(spot: Spot, row: Row) -> Turn
 pub fn visit(limits: Limits, store: &[u8], label: &[u8], spot: Spot, row: Row) -> Step
     requires { ⌜ AtRow limits (now store) (spot .link) row ⌝ }
     ensures { λ r. ⌜
-        stepOf r ≡ rowStep limits (now (store .entry)) (now (label .entry)) (spot .link) row (spot .p) (spot .s) ⌝ }
+        r
+        ≡ stepFrom spot (spot .link)
+        (rowStep limits (now (store .entry)) (now (label .entry)) (spot .link) row (spot .p) (spot .s)) ⌝ }
     ensures { λ r. ⌜ r .examined ≤ 4097 ⌝ }
 {
+    let slot = spot.link as u16;
     let t = turn_at(spot, row);
     match t {
-        Turn::Left => Step {
-            found: false,
-            right: false,
-            p: spot.p,
-            s: spot.s,
-            examined: 0,
-        },
-        Turn::Right => Step {
-            found: false,
-            right: true,
-            p: spot.p,
-            s: spot.s,
-            examined: 0,
-        },
+        Turn::Left => onward(spot, slot, false, spot.p, spot.s, 0),
+        Turn::Right => onward(spot, slot, true, spot.p, spot.s, 0),
         Turn::Compare => {
             let c = compare_by_table(limits, store, label, spot.link, row);
-            decide(spot.p, spot.s, row.place as usize, c)
+            decide(spot, slot, row.place as usize, c)
         }
     }
 }
@@ -186,21 +210,13 @@ pub fn son(row: Row, right: bool) -> u16
     if right { row.right } else { row.left }
 }
 
-// Where a son's link stands in its row.
-fn link_index(right: bool) -> usize
-    ensures { λ r. ⌜ r ≡ oneIf right ⌝ }
-    ensures { λ r. ⌜ r ≤ 1 ⌝ }
-{
-    if right { 1 } else { 0 }
-}
-
 // The same link, read from the table.
 pub fn son_at(table: &[u16], link: usize, right: bool) -> u16
     requires { ⌜ HasRow (now table) link ⌝ }
     ensures { λ r. ⌜ r ≡ sonOf (rowAt (now (table .entry)) link) right ⌝ }
 {
     let base = 4 + 8 * (link - 1);
-    table[base + link_index(right)]
+    table[base + one_if(right)]
 }
 
 // Where the walk stands after the step at a node with this row.
@@ -214,6 +230,8 @@ pub fn after(spot: Spot, row: Row, step: Step) -> Spot
         link,
         p: step.p,
         s: step.s,
+        below: step.below,
+        above: step.above,
         visits: spot.visits + 1,
         places: spot.places + step.examined,
     }

@@ -7,12 +7,15 @@ use plainmap::labels::label_number;
 use std::num::wrapping_add_usize;
 use std::num::wrapping_sub_usize;
 
-// Where the search stands: the next link, or the slot where it was found, the numbers P and S, and both counts.
+// Where the search stands: the next link, or the slot where it was found, the numbers P and S, the last nodes where it
+// went right and left, 0 for none, and both counts.
 struct State {
     link: usize,
     found: bool,
     p: usize,
     s: usize,
+    below: usize,
+    above: usize,
     visits: usize,
     places: usize,
 }
@@ -23,6 +26,8 @@ pub fn search(image: &Image, label: &[u8]) -> usize {
         found: false,
         p: 1,
         s: 1,
+        below: 0,
+        above: 0,
         visits: 0,
         places: 0,
     };
@@ -45,7 +50,7 @@ fn ended(image: &Image, at: State) -> usize {
     if slot > 0 {
         return packing::refused(5);
     }
-    packing::counted(packing::ABSENT, at.visits, at.places, 0, 0)
+    packing::counted(packing::ABSENT, at.visits, at.places, at.below, at.above)
 }
 
 // Whether a node that a search is to visit has a slot, length, place or side that no node has.
@@ -81,8 +86,14 @@ fn met(image: &Image, label: &[u8], at: State) -> State {
     visit(image, label, at)
 }
 
+// The search after a node from which it goes to a son.
 fn go(image: &Image, at: State, son: usize) -> State {
     let mut next = at;
+    if son == memory::RIGHT {
+        next.below = at.link;
+    } else {
+        next.above = at.link;
+    }
     next.link = memory::field(image, at.link, son);
     next.visits = wrapping_add_usize(at.visits, 1);
     next

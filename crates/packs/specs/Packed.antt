@@ -11,11 +11,12 @@ parts kind places visits one other =
     + (places % 4096 * 16
     + (visits % 65536 * 65536 + (one % 65536 * 4294967296 + other % 65536 * 281474976710656)))
 
--- The kinds: 0 refused, with the refusal's number and both counts 0; 1 found, with slot and value; 2 absent;
--- 3 updated, with the slot; 4 done; 5 listed, with the number of slots.
+-- The kinds: 0 refused, with the refusal's number and both counts 0; 1 found, with slot and value; 2 absent, with the
+-- slots of the nearest smaller and nearest larger label; 3 updated, with the slot; 4 done; 5 listed, with the number of
+-- slots.
 abbrev pub packed : Answer → ℕ
 packed (found slot value visits places) = parts 1 places visits slot value
-packed (absent visits places) = parts 2 places visits 0 0
+packed (absent below above visits places) = parts 2 places visits below above
 packed (updated slot visits places) = parts 3 places visits slot 0
 packed (listed count) = parts 5 0 0 count 0
 packed done = parts 4 0 0 0 0

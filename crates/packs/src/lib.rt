@@ -36,7 +36,12 @@ pub fn packed_search(said: SearchAnswer) -> usize
             visits,
             places,
         } => packed(1, places, visits, slot, value as usize),
-        SearchAnswer::Absent { visits, places } => packed(2, places, visits, 0, 0),
+        SearchAnswer::Absent {
+            below,
+            above,
+            visits,
+            places,
+        } => packed(2, places, visits, below, above),
         SearchAnswer::Refused(refusal) => packed_refusal(refusal),
     }
 }

@@ -32,11 +32,14 @@ const SLOTS: usize = 3;
 
 pub const WIDTH: usize = 4;
 
-// What the map says: a refusal's number, or 0 with the label's slot and value; a label that is not held has slot 0.
+// What the map says: a refusal's number, or 0 with the label's slot and value. A label that is not held has slot 0, and
+// a search says the slots of the nearest smaller and the nearest larger label, 0 for none.
 pub struct Said {
     pub refusal: usize,
     pub slot: usize,
     pub value: usize,
+    pub below: usize,
+    pub above: usize,
 }
 
 fn no_slot(refusal: usize) -> Said {
@@ -44,6 +47,8 @@ fn no_slot(refusal: usize) -> Said {
         refusal: refusal,
         slot: 0,
         value: 0,
+        below: 0,
+        above: 0,
     }
 }
 
@@ -52,6 +57,19 @@ fn at_slot(map: &Lists, slot: usize) -> Said {
         refusal: 0,
         slot: slot,
         value: value_of(map, slot),
+        below: 0,
+        above: 0,
+    }
+}
+
+// A label that is not held, with so many labels below it.
+fn between(map: &Lists, rank: usize) -> Said {
+    Said {
+        refusal: 0,
+        slot: 0,
+        value: 0,
+        below: slot_before(map, rank),
+        above: slot_from(map, rank),
     }
 }
 
@@ -80,6 +98,22 @@ pub fn high(map: &Lists) -> usize {
 // The slot of the label that has `rank` labels below it.
 pub fn slot_at(map: &Lists, rank: usize) -> usize {
     lists::get(map, ORDER, rank)
+}
+
+// The slot of the last of the first `rank` labels; 0 where there is none.
+fn slot_before(map: &Lists, rank: usize) -> usize {
+    if rank == 0 {
+        return 0;
+    }
+    slot_at(map, rank - 1)
+}
+
+// The slot of the first label after so many; 0 where no more are held.
+fn slot_from(map: &Lists, rank: usize) -> usize {
+    if rank < held(map) {
+        return slot_at(map, rank);
+    }
+    0
 }
 
 pub fn length_of(map: &Lists, slot: usize) -> usize {
@@ -141,7 +175,7 @@ pub fn search(map: &Lists, label: &[u8]) -> Said {
     }
     let spot = spot_of(map, label);
     if !spot.held {
-        return no_slot(0);
+        return between(map, spot.rank);
     }
     at_slot(map, slot_at(map, spot.rank))
 }
@@ -168,9 +202,20 @@ pub fn insert(map: &mut Lists, label: &[u8], value: u16) -> Said {
         return no_slot(why);
     }
     let slot = take_slot(map);
-    labels::write(map, slot, label, value);
-    open_rank(map, spot.rank, slot);
+    put_at(map, spot.rank, slot, label, value);
     at_slot(map, slot)
+}
+
+// Puts a label with a slot and a value where so many labels are below it.
+fn put_at(map: &mut Lists, rank: usize, slot: usize, label: &[u8], value: u16) {
+    labels::write(map, slot, label, value);
+    open_rank(map, rank, slot);
+}
+
+// Holds a label that is not held yet, in a slot that the caller names.
+pub fn hold(map: &mut Lists, slot: usize, label: &[u8], value: u16) {
+    let spot = spot_of(map, label);
+    put_at(map, spot.rank, slot, label, value);
 }
 
 fn delete_refusal(map: &Lists, len: usize, known: bool) -> usize {

@@ -51,12 +51,12 @@ module _ {limits : Limits} {table store : List ℕ} {x : Label} where
   leads-same same-walk same-trace leads = rw (same-walk, same-trace) leads
 
   -- a side more, after a visit of the node e
-  leads-longer : (side : Side) (e : Entry) (link p s examined : ℕ) {way : List Side} {low high : Neighbour}
+  leads-longer : (side : Side) (e : Entry) (link p s below above examined : ℕ) {way : List Side} {low high : Neighbour}
       {search : Search} {walk : Walk} {w : Spot} {trace : Trace}
-      → Leads limits table store x way low high search walk (spotAt w link p s examined) trace
-      → Leads limits table store x (side ∷ way) low high (visit e search) (visitThen e examined walk) w
+      → Leads limits table store x way low high search walk (spotAt w link p s below above examined) trace
+      → Leads limits table store x (side ∷ way) low high (visit side e search) (visitThen side e examined walk) w
       (longer (bitOf side) trace)
-  leads-longer side e link p s examined deeper =
+  leads-longer side e link p s below above examined deeper =
       record {
         path = ap (λ (n : ℕ). bitOf side + 2 * n) (deeper .path);
         sides = omega arith;
@@ -65,28 +65,30 @@ module _ {limits : Limits} {table store : List ℕ} {x : Label} where
         ends = deeper .ends;
         visits = omega arith;
         more = examined + deeper .more;
-        walks = ap (visitThen e examined) (deeper .walks);
+        walks = ap (visitThen side e examined) (deeper .walks);
         places = omega arith;
       }
 
   -- the step at the node e, between p and q, that goes as the comparison r does
-  module _ {p q : Neighbour} (e : Entry) (w : Spot) (row : Row) (below above : ℕ) (deeper : Spot → ℕ → ℕ → Trace)
+  module _ {p q : Neighbour} (e : Entry) (w : Spot) (row : Row) (deeper : Spot → Trace)
       (toLeft toRight : ℕ → ℕ → Walk) (onLeft onRight : Search) {leftWay rightWay : List Side}
       {lowLeft lowRight highLeft highRight : Neighbour}
-      (lower : belowIn limits table store below ≡ p) (upper : aboveIn limits table store above ≡ q)
+      (lower : belowIn limits table store (w .below) ≡ p) (upper : aboveIn limits table store (w .above) ≡ q)
       (here : w .link ≡ e .slot)
       (left-leads : (P S examined : ℕ) → Sought p x (held (e .label)) P S
-      → Leads limits table store x leftWay lowLeft highLeft onLeft (toLeft P S) (spotAt w (row .left) P S examined)
-      (deeper (spotAt w (row .left) P S examined) below (w .link)))
+      → Leads limits table store x leftWay lowLeft highLeft onLeft (toLeft P S)
+      (spotAt w (row .left) P S (w .below) (w .link) examined)
+      (deeper (spotAt w (row .left) P S (w .below) (w .link) examined)))
       (right-leads : (P S examined : ℕ) → Sought (held (e .label)) x q P S
       → Leads limits table store x rightWay lowRight highRight onRight (toRight P S)
-      (spotAt w (row .right) P S examined) (deeper (spotAt w (row .right) P S examined) (w .link) above)) where
+      (spotAt w (row .right) P S (w .link) (w .above) examined)
+      (deeper (spotAt w (row .right) P S (w .link) (w .above) examined))) where
     pub leads-by : {P S : ℕ} {r : Comparison} {step : Step} → Goes p x (e .label) q P S r step
         → Leads limits table store x (sidesBy r leftWay rightWay) (towards r lowLeft p lowRight)
         (towards r highLeft q highRight) (searchBy r e onLeft onRight) (walkBy step e toLeft toRight) w
-        (traceBy step w row below above deeper)
+        (traceBy step w row deeper)
     leads-by (goes-left i P S examined sought raised) =
-        leads-longer left e (row .left) P S examined (left-leads P S examined sought)
+        leads-longer left e (row .left) P S (w .below) (w .link) examined (left-leads P S examined sought)
     leads-by (goes-stop i examined raised) =
         record {
           path = refl;
@@ -95,9 +97,9 @@ module _ {limits : Limits} {table store : List ℕ} {x : Label} where
           above = upper;
           ends = here;
           visits = omega arith;
-          more = examined + 0;
+          more = examined;
           walks = refl;
           places = omega arith;
         }
     leads-by (goes-right i P S examined sought raised) =
-        leads-longer right e (row .right) P S examined (right-leads P S examined sought)
+        leads-longer right e (row .right) P S (w .link) (w .above) examined (right-leads P S examined sought)

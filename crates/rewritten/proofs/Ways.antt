@@ -60,27 +60,27 @@ module _ (limits : Limits) (table store : List ℕ) (x : Label) where
         ) good
 
     -- the trace from the node on takes the step at its label, place and side
-    trace-at : (remaining below above : ℕ)
-        → traceFrom limits table store x (suc remaining) w below above
+    trace-at : (remaining : ℕ)
+        → traceFrom limits table store x (suc remaining) w
         ≡ traceBy (stepAt x (e .label) (sideWithin p (e .label) q) (placeWithin p (e .label) q) (w .p) (w .s)) w
-        (nodeRow p l e r q) below above (traceFrom limits table store x remaining)
+        (nodeRow p l e r q) (traceFrom limits table store x remaining)
     unfolding rowStep
-    trace-at remaining below above =
-        trace-at-node limits table store x w below above remaining (not-halted remaining)
+    trace-at remaining =
+        trace-at-node limits table store x w remaining (not-halted remaining)
         ∙ rw (here, node-held .row, node-held .label)
 
   -- the trace in a subtree between p and q
-  leads-from : (t : Tree) (remaining : ℕ) (p q : Neighbour) (w : Spot) (below above : ℕ)
-      → belowIn limits table store below ≡ p → aboveIn limits table store above ≡ q → w .link ≡ linkOf t
+  leads-from : (t : Tree) (remaining : ℕ) (p q : Neighbour) (w : Spot)
+      → belowIn limits table store (w .below) ≡ p → aboveIn limits table store (w .above) ≡ q → w .link ≡ linkOf t
       → w .visits + remaining ≡ limits .depth → Between p q t → Represents limits table store p q t
       → height t ≤ remaining
       → Sought p x q (w .p) (w .s)
       → Leads limits table store x (sidesTo x t) (lowTo p x t) (highTo q x t) (fullSearch x t)
       (steps limits table store x remaining (linkOf t) (w .p) (w .s)) w
-      (traceFrom limits table store x remaining w below above)
-  leads-from empty remaining p q w below above lower upper here deep between represented fits sought =
+      (traceFrom limits table store x remaining w)
+  leads-from empty remaining p q w lower upper here deep between represented fits sought =
       leads-same (steps-at-missing stepAt limits table store x remaining (w .p) (w .s))
-      (trace-missing limits table store x w below above remaining here)
+      (trace-missing limits table store x w remaining here)
       (record {
         path = refl;
         sides = refl;
@@ -92,20 +92,22 @@ module _ (limits : Limits) (table store : List ℕ) (x : Label) where
         walks = refl;
         places = omega arith;
       })
-  leads-from (node l e r) zero p q w below above lower upper here deep between represented fits sought =
+  leads-from (node l e r) zero p q w lower upper here deep between represented fits sought =
       absurd (omega arith)
-  leads-from (node l e r) (suc remaining) p q w below above lower upper here deep between represented fits sought =
+  leads-from (node l e r) (suc remaining) p q w lower upper here deep between represented fits sought =
       let node-held = represented .0 in
       let beside = neighbour-in (w .link) (e .label) (omega (arith, node-held .low)) (label-here node-held w here) in
       leads-same (steps-at-node stepAt limits table store x node-held remaining (w .p) (w .s))
-      (trace-at node-held w here remaining below above)
-      (leads-by e w (nodeRow p l e r q) below above (traceFrom limits table store x remaining)
+      (trace-at node-held w here remaining)
+      (leads-by e w (nodeRow p l e r q) (traceFrom limits table store x remaining)
       (steps limits table store x remaining (linkOf l)) (steps limits table store x remaining (linkOf r))
       (fullSearch x l) (fullSearch x r) lower upper here
-      (λ P S examined. leads-from l remaining p (held (e .label)) (spotAt w (linkOf l) P S examined) below (w .link)
-      lower (beside .1) refl (omega arith) (between .on-left) (represented .1) (omega arith))
-      (λ P S examined. leads-from r remaining (held (e .label)) q (spotAt w (linkOf r) P S examined) (w .link) above
-      (beside .0) upper refl (omega arith) (between .on-right) (represented .2) (omega arith))
+      (λ P S examined. leads-from l remaining p (held (e .label))
+      (spotAt w (linkOf l) P S (w .below) (w .link) examined) lower (beside .1) refl (omega arith)
+      (between .on-left) (represented .1) (omega arith))
+      (λ P S examined. leads-from r remaining (held (e .label)) q
+      (spotAt w (linkOf r) P S (w .link) (w .above) examined) (beside .0) upper refl (omega arith)
+      (between .on-right) (represented .2) (omega arith))
       (step-goes sought (between .above) (between .below)))
 
 -- where the search ended, in the terms of the whole tree
@@ -121,7 +123,7 @@ pub way-of-trace : (limits : Limits) (table store : List ℕ) (x : Label) (t : T
     → height t ≤ limits .depth → Way limits table store x t (traced limits table store x)
 unfolding traced searchSteps
 way-of-trace limits table store x t root represented between fits =
-    let leads = leads-from limits table store x t (limits .depth) none-below none-above (rootSpot table) 0 0
+    let leads = leads-from limits table store x t (limits .depth) none-below none-above (rootSpot table)
     refl refl root (omega arith) between represented fits (sought-first x) in
     let walk : searchSteps limits table store x ≡ ended (fullSearch x t) (leads .more) =
     ap (λ (k : ℕ). steps limits table store x (limits .depth) k 1 1) root ∙ leads .walks in

@@ -27,7 +27,8 @@ pub fn made(image: &mut Image, map: &mut Lists, call: usize, label: &[u8], value
     }
 }
 
-// Makes any call on any memory, which stays, and compares the answer and what is left with the second writing's.
+// Makes any call on any memory, which stays, and compares the answer and what is left with the second writing's; where
+// the memory is sound, a search's answer also with the map's.
 pub fn tried(image: &Image, call: usize, label: &[u8], number: usize) -> usize {
     let mut left = *image;
     let said = calls::make(&mut left, call, label, number);

@@ -6,6 +6,7 @@ use mathlib.Core.Path.{_≡_, refl, sym, ap, _∙_}
 use mathlib.Core.Logic.{_≢_}
 use mathlib.Core.List.{List, [], _∷_}
 use mathlib.Core.Bool.{Bool, true, false, _||_, true≢false}
+use mathlib.Core.Option.{Option, none, some}
 use Prim.Native.Nat.{ℕ, zero, suc, _+_, _-_, _*_, _≤_, _<_}
 use native.Mathlib.Omega.{arith}
 use lib.Dec.{ltb, eqb}
@@ -18,7 +19,8 @@ use Rattle.types.specs.declared.SearchAnswer.the-variants.{Found}
 use Rattle.types.specs.declared.Refusal.{Refusal}
 use Rattle.types.specs.Answers.{Answer, refused, refusalNumber, searchSays}
 use Rattle.labels.specs.Labels.{Label}
-use Rattle.trees.specs.Trees.{Entry}
+use Rattle.trees.specs.Trees.{Entry, Side, left, right}
+use Rattle.trees.specs.Searches.{last, slotOf}
 use Rattle.tables.specs.Words.{rootLink, rowAt, entryAt}
 use Rattle.tables.specs.Steps.{stop, isBad, Walk, broken, ended, visitThen, walkBy, missing, stepsBy, steps}
 use Rattle.tables.specs.Steps.{searchSteps}
@@ -28,35 +30,65 @@ use Rattle.lengths.specs.declared.Early.the-variants.{Pass, Refused}
 use Rattle.lengths.specs.Early.{earlySays}
 use Rattle.words.specs.Limits.{LimitsFit}
 use Rattle.lengths.proofs.FirstLines.{lengths-refused, lengths-passed, lengths-fit}
-use Rattle.nodes.specs.Nodes.{haltsAt, stepBy, rowStep, sonOf}
+use Rattle.nodes.specs.Nodes.{haltsAt, belowAfter, aboveAfter, rowStep, sonOf}
 use Rattle.nodes.proofs.Rows.{live}
-use Rattle.search.specs.Walks.{haltedAt, answerAfter, answerFrom}
-use Rattle.search.proofs.Moves.{Went}
+use Rattle.search.specs.Walks.{haltedAt, slotAfter, answerAfter, answerFrom}
+use Rattle.search.proofs.Moves.{goOn, Ends, Went, Passed}
+
+-- with no node before it, the slot of the last node is that of the rest of a walk
+slot-after-none : (later : Option Entry) → slotAfter 0 later ≡ slotOf later
+slot-after-none none = refl
+slot-after-none (some e) = refl
 
 -- with nothing behind it, a walk's answer is its own
-answer-after-nothing : (walk : Walk) → answerAfter 0 0 walk ≡ walkAnswer walk
+answer-after-nothing : (walk : Walk) → answerAfter 0 0 0 0 walk ≡ walkAnswer walk
 answer-after-nothing broken = refl
 answer-after-nothing (ended s places) =
     let v : 0 + length (s .visited) ≡ length (s .visited) = omega arith in
     let p : 0 + places ≡ places = omega arith in
-    rw (v, p)
+    rw (v, p, slot-after-none (s .below), slot-after-none (s .above))
 
--- a visited node counts as one visit, and its places
-answer-after-visited : (visits places examined : ℕ) (e : Entry) (walk : Walk)
-    → answerAfter visits places (visitThen e examined walk) ≡ answerAfter (visits + 1) (places + examined) walk
-answer-after-visited visits places examined e broken = refl
-answer-after-visited visits places examined e (ended s more) =
+-- the last of a node and those after it stands in the node's slot, unless there is a later one
+slot-after-last : (before : ℕ) (e : Entry) (later : Option Entry)
+    → slotAfter before (last e later) ≡ slotAfter (e .slot) later
+slot-after-last before e none = refl
+slot-after-last before e (some f) = refl
+
+-- the side of the son that a walk goes to
+abbrev sideTo : Bool → Side
+sideTo true = right
+sideTo false = left
+
+-- a node that the walk went past counts as one visit, and its places; it is the nearest one on its side so far
+answer-after-visited : (to : Bool) (below above visits places examined : ℕ) (e : Entry) (walk : Walk)
+    → answerAfter below above visits places (visitThen (sideTo to) e examined walk)
+    ≡ answerAfter (belowAfter to (e .slot) below) (aboveAfter to (e .slot) above) (visits + 1) (places + examined) walk
+answer-after-visited to below above visits places examined e broken = refl
+answer-after-visited to below above visits places examined e (ended s more) =
     let v : visits + 1 + length (s .visited) ≡ visits + suc (length (s .visited)) = omega arith in
     let p : places + examined + more ≡ places + (examined + more) = omega arith in
-    rw (v, p)
+    rw (v, p) (go to)
+  where
+    go : (to : Bool)
+        → answerAfter below above visits places (visitThen (sideTo to) e examined (ended s more))
+        ≡ answerAfter (belowAfter to (e .slot) below) (aboveAfter to (e .slot) above) visits places
+        (ended (record {
+          visited = e .label ∷ s .visited;
+          result = s .result;
+          below = s .below;
+          above = s .above;
+        }) (examined + more))
+    go true = rw (slot-after-last below e (s .below))
+    go false = rw (slot-after-last above e (s .above))
 
 -- a walk has reached a link: the counts are within their bounds, and its answer from there on is the whole answer
 pub record Reached (limits : Limits) (table store : List ℕ) (x : Label) (whole : Answer) (link remaining places : ℕ)
-    (ends : List ℕ) : Type 0 where
+    (ends near : List ℕ) : Type 0 where
   pub within : remaining ≤ limits .depth
   pub few : places ≤ 4097 * (limits .depth - remaining)
-  pub two : length ends ≡ 2
-  pub so : answerFrom limits table store x link remaining places ends ≡ whole
+  pub held : Ends ends
+  pub two : length near ≡ 2
+  pub so : answerFrom limits table store x link remaining places ends near ≡ whole
 
 module _ (limits : Limits) (table store : List ℕ) (x : Label) where
   -- at an empty link nothing more is visited
@@ -68,9 +100,9 @@ module _ (limits : Limits) (table store : List ℕ) (x : Label) where
   steps-broken : (remaining link p s : ℕ) → link ≢ 0
       → (eqb remaining 0 || (ltb (limits .slots) link || isBad limits (rowAt table link))) ≡ true
       → steps limits table store x remaining link p s ≡ broken
-  steps-broken remaining zero p s some bad = absurd (some refl)
-  steps-broken zero (suc k) p s some bad = refl
-  steps-broken (suc remaining) (suc k) p s some bad =
+  steps-broken remaining zero p s full bad = absurd (full refl)
+  steps-broken zero (suc k) p s full bad = refl
+  steps-broken (suc remaining) (suc k) p s full bad =
       let room : suc remaining ≢ 0 = λ e. omega arith in rw (rw (ne-eqb _ _ room) at bad, stepsBy)
 
   -- any other node takes its step
@@ -89,33 +121,43 @@ module _ (limits : Limits) (table store : List ℕ) (x : Label) where
       rw (passed, stepsBy, e)
 
   -- the walk from a node on goes into the son that its step takes
-  answer-after-onward : (remaining visits places p s examined : ℕ) (row : Row) (right : Bool) (e : Entry)
-      → answerAfter visits places
-      (walkBy (stepBy false right p s examined) e
+  answer-after-onward : (remaining below above visits places p s examined : ℕ) (row : Row) (to : Bool) (e : Entry)
+      → answerAfter below above visits places
+      (walkBy (goOn to p s examined) e
       (steps limits table store x remaining (row .left))
       (steps limits table store x remaining (row .right)))
-      ≡ answerAfter (visits + 1) (places + examined) (steps limits table store x remaining (sonOf row right) p s)
+      ≡ answerAfter (belowAfter to (e .slot) below) (aboveAfter to (e .slot) above) (visits + 1) (places + examined)
+      (steps limits table store x remaining (sonOf row to) p s)
   unfolding sonOf
-  answer-after-onward remaining visits places p s examined row true e =
-      answer-after-visited visits places examined e (steps limits table store x remaining (row .right) p s)
-  answer-after-onward remaining visits places p s examined row false e =
-      answer-after-visited visits places examined e (steps limits table store x remaining (row .left) p s)
+  answer-after-onward remaining below above visits places p s examined row true e =
+      answer-after-visited true below above visits places examined e
+      (steps limits table store x remaining (row .right) p s)
+  answer-after-onward remaining below above visits places p s examined row false e =
+      answer-after-visited false below above visits places examined e
+      (steps limits table store x remaining (row .left) p s)
 
   -- a walk has reached a link, which is tested
-  module _ (whole : Answer) (link remaining places : ℕ) (ends : List ℕ)
-      (at : Reached limits table store x whole link remaining places ends)
+  module _ (whole : Answer) (link remaining places : ℕ) (ends near : List ℕ)
+      (at : Reached limits table store x whole link remaining places ends near)
       (tested : Bool) (test : tested ≡ haltsAt limits table link remaining) where
     abbrev visits : ℕ
     visits = limits .depth - remaining
 
+    abbrev below : ℕ
+    below = getD near 1 0
+
+    abbrev above : ℕ
+    above = getD near 0 0
+
     -- where there is no node to visit, it ends
-    pub walk-halted : (a : SearchAnswer) → tested ≡ true → a ≡ haltedAt link visits places → searchSays a ≡ whole
+    pub walk-halted : (a : SearchAnswer) → tested ≡ true → a ≡ haltedAt link below above visits places
+        → searchSays a ≡ whole
     unfolding answerFrom haltsAt
     walk-halted a is said = go (eqb link 0) refl (sym test ∙ is) said
       where
         go : (b : Bool) → eqb link 0 ≡ b
             → (b || (eqb remaining 0 || (ltb (limits .slots) link || isBad limits (rowAt table link)))) ≡ true
-            → a ≡ haltedAt link visits places → searchSays a ≡ whole
+            → a ≡ haltedAt link below above visits places → searchSays a ≡ whole
         go true empty all e =
             let none = eqb-true link 0 empty in
             let v : visits + 0 ≡ visits = omega arith in
@@ -127,39 +169,38 @@ module _ (limits : Limits) (table store : List ℕ) (x : Label) where
 
     module _ (fine : tested ≡ false) (row : Row) (read : row ≡ rowAt table link) where
       -- elsewhere it is that of the step taken
-      walk-stepped : answerAfter visits places
+      walk-stepped : answerAfter below above visits places
           (walkBy (rowStep limits store x link row (getD ends 0 0) (getD ends 1 0)) (entryAt limits table store link)
           (steps limits table store x (remaining - 1) (row .left))
           (steps limits table store x (remaining - 1) (row .right))) ≡ whole
       unfolding answerFrom
       walk-stepped =
-          rw read (sym (ap (answerAfter visits places)
+          rw read (sym (ap (answerAfter below above visits places)
           (steps-node remaining link (getD ends 0 0) (getD ends 1 0) (sym test ∙ fine))) ∙ at .so)
 
       -- where the label is found, it ends
       pub walk-found : (held : Row) → held ≡ rowAt table link → (examined more : ℕ) (a : SearchAnswer)
           → stop examined ≡ rowStep limits store x link row (getD ends 0 0) (getD ends 1 0)
           → a ≡ Found link (held .value) (visits + 1) more → more ≡ places + examined → searchSays a ≡ whole
-      walk-found held again examined more a step e sum =
-          let none : examined + 0 ≡ examined = omega arith in
-          rw (e, sum, again) (rw (← step, none) at walk-stepped)
+      walk-found held again examined more a step e sum = rw (e, sum, again) (rw (← step) at walk-stepped)
 
       -- where it is not, it goes on to a son
-      module _ (right : Bool) (next more : ℕ) (after : List ℕ) (son : next ≡ sonOf row right)
-          (went : Went limits store x link row ends places right after more) where
+      module _ (to : Bool) (next more : ℕ) (after beside : List ℕ) (son : next ≡ sonOf row to)
+          (went : Went limits store x link row ends places to after more) (passed : Passed near link to beside) where
         one-more : limits .depth - (remaining - 1) ≡ visits + 1
         one-more =
             let room = live limits table link remaining tested test fine .room in let within = at .within in omega arith
 
         -- with the same answer
-        walk-onward : answerFrom limits table store x next (remaining - 1) more after ≡ whole
+        walk-onward : answerFrom limits table store x next (remaining - 1) more after beside ≡ whole
         unfolding answerFrom
         walk-onward =
-            let goes = answer-after-onward (remaining - 1) visits places (getD after 0 0) (getD after 1 0)
-            (went .examined) row right (entryAt limits table store link) in
-            rw (son, one-more, went .sum) (sym goes ∙ rw (← (went .step)) at walk-stepped)
+            let goes = answer-after-onward (remaining - 1) below above visits places (getD after 0 0) (getD after 1 0)
+            (went .examined) row to (entryAt limits table store link) in
+            rw (son, one-more, went .sum, passed .below, passed .above)
+            (sym goes ∙ rw (← (went .step)) at walk-stepped)
 
-        pub reached-son : Reached limits table store x whole next (remaining - 1) more after
+        pub reached-son : Reached limits table store x whole next (remaining - 1) more after beside
         reached-son =
             let within = at .within in
             let few = at .few in
@@ -168,20 +209,22 @@ module _ (limits : Limits) (table store : List ℕ) (x : Label) where
             record {
               within = omega arith;
               few = rw one-more (omega arith);
-              two = went .two;
+              held = went .held;
+              two = passed .two;
               so = walk-onward;
             }
 
 -- at the root nothing is behind it
 pub reached-root : (limits : Limits) (table store : List ℕ) (x : Label) (root : ℕ)
     → Reached limits table store x (walkAnswer (steps limits table store x (limits .depth) root 1 1))
-    root (limits .depth) 0 (1 ∷ (1 ∷ []))
+    root (limits .depth) 0 (1 ∷ (1 ∷ (1 ∷ []))) (0 ∷ (0 ∷ []))
 unfolding answerFrom
 reached-root limits table store x root =
     let none : limits .depth - limits .depth ≡ 0 = omega arith in
     record {
       within = omega arith;
       few = omega arith;
+      held = record { three = refl; again = refl };
       two = refl;
       so = rw none (answer-after-nothing (steps limits table store x (limits .depth) root 1 1));
     }

@@ -13,16 +13,23 @@ ghost use Rattle.words.specs.Limits.{LimitsFit, SizesFit};
 ghost use Rattle.search.specs.Walks.{haltedAt};
 
 // The answer where no node is visited: absent at an empty link, and else refused.
-fn halted(link: usize, visits: usize, places: usize) -> SearchAnswer
-    ensures { λ r. ⌜ r ≡ haltedAt link visits places ⌝ }
+fn halted(link: usize, below: usize, above: usize, visits: usize, places: usize) -> SearchAnswer
+    ensures { λ r. ⌜ r ≡ haltedAt link below above visits places ⌝ }
 {
     if link == 0 {
-        return SearchAnswer::Absent { visits, places };
+        return SearchAnswer::Absent {
+            below,
+            above,
+            visits,
+            places,
+        };
     }
     SearchAnswer::Refused(Refusal::BrokenWalk)
 }
 
-// The walk from the link at the root. P and S stand in an array, by the side that goes by them.
+// The walk from the link at the root. P and S stand in an array, by the side that goes by them, and S once more, so
+// that it stands behind either. The last nodes where the walk went left and right, which are the nearest larger and the
+// nearest smaller one, stand in another, by the index of the link that it took.
 fn walk(limits: Limits, table: &[u16], store: &[u8], label: &[u8], root: usize) -> SearchAnswer
     requires { ⌜ SizesFit limits (now table) (now store) ⌝ }
     ensures { λ r. ⌜
@@ -33,15 +40,16 @@ fn walk(limits: Limits, table: &[u16], store: &[u8], label: &[u8], root: usize) 
     let mut link = root;
     let mut remaining = limits.depth;
     let mut places = 0;
-    let mut ends = [1, 1];
+    let mut ends = [1, 1, 1];
+    let mut near = [0, 0];
     loop {
         if nodes::halts(limits, table, link, remaining) {
-            return halted(link, limits.depth - remaining, places);
+            return halted(link, near[1], near[0], limits.depth - remaining, places);
         }
         let row = words::read_row(table, link);
         let side = row.side as usize;
         let d = row.place as usize;
-        let turn = nodes::turning::turn(side, d, ends[side], ends[1]);
+        let turn = nodes::turning::turn(side, d, ends[side], ends[side + 1]);
         let right = match turn {
             Turn::Left => false,
             Turn::Right => true,
@@ -53,6 +61,7 @@ fn walk(limits: Limits, table: &[u16], store: &[u8], label: &[u8], root: usize) 
                 match order {
                     Order::Smaller => {
                         ends[1] = place;
+                        ends[2] = place;
                         false
                     }
                     Order::Same => {
@@ -73,6 +82,7 @@ fn walk(limits: Limits, table: &[u16], store: &[u8], label: &[u8], root: usize) 
                 }
             }
         };
+        near[nodes::one_if(right)] = link;
         link = nodes::son_at(table, link, right) as usize;
         remaining -= 1;
     }

@@ -3,7 +3,7 @@
 -- `Agrees`: a walk ends with what a search finds and visits, and examines few places.
 -- `steps-agree`: so does the walk into each subtree.
 -- `Walked`, `search-agrees`: so do the search steps; the places are at most the label's length and the visits.
-use mathlib.Core.List.{List, []}
+use mathlib.Core.List.{List}
 use mathlib.Core.Path.{_≡_, refl, ap}
 use Prim.Native.Nat.{ℕ, zero, suc, _+_, _≤_, max}
 use native.Mathlib.Omega.{arith}
@@ -11,8 +11,8 @@ use lib.ListN.{length}
 use Rattle.types.specs.declared.Limits.{Limits}
 use Rattle.labels.specs.Labels.{Label, Comparison}
 use Rattle.labels.specs.Neighbours.{Neighbour, none-below, held, none-above}
-use Rattle.trees.specs.Trees.{Entry, Tree, empty, node}
-use Rattle.trees.specs.Searches.{Held, absent, found, Search, visit, searchBy, fullSearch}
+use Rattle.trees.specs.Trees.{Entry, Tree, empty, node, Side, left, right}
+use Rattle.trees.specs.Searches.{Search, visit, searchBy, fullSearch}
 use Rattle.trees.specs.Heights.{height}
 use Rattle.trees.proofs.Sorted.{Between}
 use Rattle.tables.specs.Words.{rootLink}
@@ -34,22 +34,17 @@ pub record Agrees (x : Label) (P S : ℕ) (walk : Walk) (search : Search) : Type
 
 -- a walk at a missing link is over
 pub steps-at-missing : (step : StepRule) (limits : Limits) (table store : List ℕ)
-    (x : Label) (left P S : ℕ) → stepsBy step limits table store x left 0 P S ≡ missing
+    (x : Label) (remaining P S : ℕ) → stepsBy step limits table store x remaining 0 P S ≡ missing
 steps-at-missing step limits table store x zero P S = refl
-steps-at-missing step limits table store x (suc left) P S = refl
+steps-at-missing step limits table store x (suc remaining) P S = refl
 
 -- a walk that visits a node first agrees with a search that does, if all places but one that it examines there raise
 -- the larger of P and S
-visited-agrees : {x : Label} {P S P' S' : ℕ} {walk : Walk} {search : Search} (e : Entry) (examined : ℕ)
+visited-agrees : {x : Label} {P S P' S' : ℕ} {walk : Walk} {search : Search} (side : Side) (e : Entry) (examined : ℕ)
     → examined + max P S ≤ suc (max P' S') → Agrees x P' S' walk search
-    → Agrees x P S (visitThen e examined walk) (visit e search)
-visited-agrees e examined raised rest =
-    record { places = examined + rest .places; ends = ap (visitThen e examined) (rest .ends); few = omega arith }
-
--- a walk that is over agrees with a search that is
-over-agrees : (x : Label) (result : Held) (P S : ℕ) → max P S ≤ suc (length x)
-    → Agrees x P S (ended (record { visited = []; result = result }) 0) (record { visited = []; result = result })
-over-agrees x result P S within = record { places = 0; ends = refl; few = omega arith }
+    → Agrees x P S (visitThen side e examined walk) (visit side e search)
+visited-agrees side e examined raised rest =
+    record { places = examined + rest .places; ends = ap (visitThen side e examined) (rest .ends); few = omega arith }
 
 -- a step that goes as the comparison does leads to a walk that agrees, if the walks into the sons agree
 walk-agrees : {p s : Neighbour} {x : Label} {P S : ℕ} {r : Comparison} {step : Step}
@@ -58,13 +53,12 @@ walk-agrees : {p s : Neighbour} {x : Label} {P S : ℕ} {r : Comparison} {step :
     → ((P' S' : ℕ) → Sought (held (e .label)) x s P' S' → Agrees x P' S' (toRight P' S') onRight)
     → Goes p x (e .label) s P S r step
     → Agrees x P S (walkBy step e toLeft toRight) (searchBy r e onLeft onRight)
-walk-agrees e toLeft toRight onLeft onRight left right (goes-left i P' S' examined sought raised) =
-    visited-agrees e examined raised (left P' S' sought)
-walk-agrees {x} e toLeft toRight onLeft onRight left right (goes-stop i examined raised) =
-    let end = suc (length x) in
-    visited-agrees {P' = end} {S' = end} e examined (omega arith) (over-agrees x (found e) end end (omega arith))
-walk-agrees e toLeft toRight onLeft onRight left right (goes-right i P' S' examined sought raised) =
-    visited-agrees e examined raised (right P' S' sought)
+walk-agrees e toLeft toRight onLeft onRight there elsewhere (goes-left i P' S' examined sought raised) =
+    visited-agrees left e examined raised (there P' S' sought)
+walk-agrees e toLeft toRight onLeft onRight elsewhere further (goes-stop i examined raised) =
+    record { places = examined; ends = refl; few = omega arith }
+walk-agrees e toLeft toRight onLeft onRight elsewhere there (goes-right i P' S' examined sought raised) =
+    visited-agrees right e examined raised (there P' S' sought)
 
 -- the search steps for x end as the full comparison search does, and examine few places
 pub record Walked (limits : Limits) (table store : List ℕ) (x : Label) (t : Tree) : Type 0 where
@@ -78,18 +72,20 @@ ended-with-places ends = cc (ap placesOf ends)
 
 module _ (limits : Limits) (table store : List ℕ) (x : Label) where
   -- the walk into a subtree goes as the full comparison search in it
-  pub steps-agree : (t : Tree) (left : ℕ) (p s : Neighbour) (P S : ℕ) → Between p s t
-      → Represents limits table store p s t → height t ≤ left → Sought p x s P S
-      → Agrees x P S (steps limits table store x left (linkOf t) P S) (fullSearch x t)
-  steps-agree empty left p s P S between represented fits sought =
-      rw (steps-at-missing stepAt limits table store x left P S) (over-agrees x absent P S (numbers-within sought))
+  pub steps-agree : (t : Tree) (remaining : ℕ) (p s : Neighbour) (P S : ℕ) → Between p s t
+      → Represents limits table store p s t → height t ≤ remaining → Sought p x s P S
+      → Agrees x P S (steps limits table store x remaining (linkOf t) P S) (fullSearch x t)
+  steps-agree empty remaining p s P S between represented fits sought =
+      let within = numbers-within sought in
+      rw (steps-at-missing stepAt limits table store x remaining P S)
+      (record { places = 0; ends = refl; few = omega arith })
   steps-agree (node l e r) zero p s P S between represented fits sought = absurd (omega arith)
-  steps-agree (node l e r) (suc left) p s P S between represented fits sought =
-      rw (steps-at-node stepAt limits table store x (represented .0) left P S)
-      (walk-agrees e (steps limits table store x left (linkOf l)) (steps limits table store x left (linkOf r))
+  steps-agree (node l e r) (suc remaining) p s P S between represented fits sought =
+      rw (steps-at-node stepAt limits table store x (represented .0) remaining P S)
+      (walk-agrees e (steps limits table store x remaining (linkOf l)) (steps limits table store x remaining (linkOf r))
       (fullSearch x l) (fullSearch x r)
-      (λ P' S'. steps-agree l left p (held (e .label)) P' S' (between .on-left) (represented .1) (omega arith))
-      (λ P' S'. steps-agree r left (held (e .label)) s P' S' (between .on-right) (represented .2) (omega arith))
+      (λ P' S'. steps-agree l remaining p (held (e .label)) P' S' (between .on-left) (represented .1) (omega arith))
+      (λ P' S'. steps-agree r remaining (held (e .label)) s P' S' (between .on-right) (represented .2) (omega arith))
       (step-goes sought (between .above) (between .below)))
 
   -- the search steps on a table and a store that hold a tree go as the full comparison search on the tree

@@ -67,7 +67,7 @@ pub record LabelFits (limits : Limits) (x : Label) : Type 0 where
 -- what a search answer says is held: the label that its slot shows, and the value
 abbrev pub pairSaid : Limits → Memory → Answer → Option Pair
 pairSaid limits m (found slot value visits places) = some (record { label = labelIn limits m slot; value = value })
-pairSaid limits m (absent visits places) = none
+pairSaid limits m (absent below above visits places) = none
 pairSaid limits m (updated slot visits places) = none
 pairSaid limits m (listed count) = none
 pairSaid limits m done = none
@@ -89,7 +89,7 @@ pub data Said : Type 0 where
 
 abbrev pub said : Answer → Said
 said (found slot value visits places) = accepted
-said (absent visits places) = accepted
+said (absent below above visits places) = accepted
 said (updated slot visits places) = accepted
 said (listed count) = accepted
 said done = accepted
@@ -147,7 +147,8 @@ pub record OrderedMap (limits : Limits) : Type 0 where
 
 -- a call's search, on the memory as the call finds it, beside the full comparison search of the plain tree
 pub record SearchAgrees (limits : Limits) (x : Label) (m : Memory) (t : Tree) : Type 0 where
-  -- the labels visited are those of the full comparison search, in order; it finds the same; the walk is not broken
+  -- the labels visited are those of the full comparison search, in order; it finds the same, and the same nodes are the
+  -- nearest smaller and nearest larger ones; the walk is not broken
   pub walk :
       searchSteps limits (m .table) (m .store) x
       ≡ ended (fullSearch x t) (placesOf (searchSteps limits (m .table) (m .store) x))
@@ -179,8 +180,8 @@ callOutcome limits (plain.delete x) m = updateOutcome limits (plain.delete x) (m
 pub record CallAgrees (limits : Limits) (c : Call) (m : Memory) (s : State) : Type 0 where
   pub search : LabelFits limits (soughtBy c) → SearchAgrees limits (soughtBy c) m (s .tree)
   pub finds : LabelFits limits (soughtBy c) → FindsHeld limits (soughtBy c) m (s .tree)
-  -- refused when the plain tree refuses, by the same number; slots and values are the plain tree's; the counts are
-  -- those of the steps
+  -- refused when the plain tree refuses, by the same number; slots and values are the plain tree's, and so are the
+  -- neighbours of an absent label; the counts are those of the steps
   pub answer :
       callOutcome limits c m .answer
       ≡ replyAnswer (plainStep (limits .slots) (limits .width) c s .reply)

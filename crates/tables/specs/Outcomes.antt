@@ -11,6 +11,7 @@ use Rattle.types.specs.Answers.{Answer, found, absent, updated, listed, done, r
 use Rattle.labels.specs.Labels.{Label}
 use Rattle.trees.specs.Trees.{slots}
 use Rattle.trees.specs.Searches as held
+use Rattle.trees.specs.Searches.{slotOf}
 use Rattle.trees.specs.Plain as plain
 use Rattle.trees.specs.Plain.{Call, Reply, After, soughtBy, plainStep}
 use Rattle.tables.specs.Words.{labelsHeld, rowAt, labelAt}
@@ -60,14 +61,15 @@ answerBy (refuse number) a = refused number
 
 -- ---- search, check, view
 
-abbrev pub answerOf : held.Held → (visits places : ℕ) → Answer
-answerOf held.absent visits places = absent visits places
-answerOf (held.found e) visits places = found (e .slot) (e .value) visits places
+abbrev pub answerOf : held.Held → (below above visits places : ℕ) → Answer
+answerOf held.absent below above visits places = absent below above visits places
+answerOf (held.found e) below above visits places = found (e .slot) (e .value) visits places
 
 -- "Visits counts nodes"; "walk: 5, broken"
 abbrev pub walkAnswer : Walk → Answer
 walkAnswer broken = refused 5
-walkAnswer (ended s places) = answerOf (s .result) (length (s .visited)) places
+walkAnswer (ended s places) =
+    answerOf (s .result) (slotOf (s .below)) (slotOf (s .above)) (length (s .visited)) places
 
 unfoldable pub searchOutcome : Limits → (table store : List ℕ) → Label → Answer
 searchOutcome limits table store x =
@@ -140,7 +142,7 @@ placesOf (ended s places) = places
 -- the plain tree's reply, with "its search's counts"
 abbrev pub replyAnswer : Reply → Walk → Answer
 replyAnswer (plain.found-at slot value) w = found slot value (visitsOf w) (placesOf w)
-replyAnswer plain.not-held w = absent (visitsOf w) (placesOf w)
+replyAnswer (plain.not-held below above) w = absent below above (visitsOf w) (placesOf w)
 replyAnswer (plain.updated slot) w = updated slot (visitsOf w) (placesOf w)
 replyAnswer (plain.refused number) w = refused number
 
@@ -148,7 +150,7 @@ replyAnswer (plain.refused number) w = refused number
 -- all lent memory stays
 abbrev pub memoryAfter : Limits → Memory → Reply → plain.State → Memory
 memoryAfter limits m (plain.found-at slot value) s = m
-memoryAfter limits m plain.not-held s = m
+memoryAfter limits m (plain.not-held below above) s = m
 memoryAfter limits m (plain.updated slot) s = written limits s
 memoryAfter limits m (plain.refused number) s = m
 

@@ -1,4 +1,5 @@
--- 'The search steps' of document 01, with the line of M-106 of document 02, over a table and a store of any content.
+-- 'The search steps' of document 01, with the line of M-106 and the neighbours of M-107 of document 02, over a table
+-- and a store of any content.
 use mathlib.Core.List.{List, []}
 use mathlib.Core.Bool.{Bool, true, false, _&&_, _||_, cond}
 use Prim.Native.Nat.{ℕ, zero, suc, _+_, _-_, compare, Ordering, Ordering·lt, Ordering·eq, Ordering·gt}
@@ -6,8 +7,8 @@ use lib.Dec.{eqb, ltb}
 use Rattle.types.specs.declared.Limits.{Limits}
 use Rattle.types.specs.declared.Row.{Row}
 use Rattle.labels.specs.Labels.{Label, Comparison, smaller, same, larger, compareFrom}
-use Rattle.trees.specs.Trees.{Entry}
-use Rattle.trees.specs.Searches.{Search, absent, found, visit}
+use Rattle.trees.specs.Trees.{Entry, Side, left, right}
+use Rattle.trees.specs.Searches.{Search, nothingVisited, visit, stopAt}
 use Rattle.tables.specs.Words.{rootLink, rowAt, entryAt}
 
 -- what a node's step does, with P and S after it and the places it examined
@@ -65,41 +66,42 @@ isBad limits row =
     || (ltb (limits .width) (row .len)
     || (eqb (row .place) 0 || (ltb (row .len + 1) (row .place) || ltb 1 (row .side))))
 
--- a walk: broken, or ended, with the labels it visited, what it found, and the places it examined
+-- a walk: broken, or ended, with the labels it visited, what it found, "the last nodes where the walk went right and
+-- left" (M-107 of document 02), and the places it examined
 pub data Walk : Type 0 where
   broken : Walk
   ended : Search → (places : ℕ) → Walk
 
--- a walk that visited the node e first, and examined places there
-abbrev pub visitThen : Entry → ℕ → Walk → Walk
-visitThen e examined broken = broken
-visitThen e examined (ended s places) = ended (visit e s) (examined + places)
+-- a walk that visited the node e first, examined places there, and went on to a side of it
+abbrev pub visitThen : Side → Entry → ℕ → Walk → Walk
+visitThen side e examined broken = broken
+visitThen side e examined (ended s places) = ended (visit side e s) (examined + places)
 
--- the walk from a node, by its step there and the walks into its sons
+-- the walk from a node, by its step there, whichever line it was, and the walks into its sons
 abbrev pub walkBy : Step → Entry → (ℕ → ℕ → Walk) → (ℕ → ℕ → Walk) → Walk
-walkBy (go-left p s examined) e toLeft toRight = visitThen e examined (toLeft p s)
-walkBy (go-right p s examined) e toLeft toRight = visitThen e examined (toRight p s)
-walkBy (stop examined) e toLeft toRight = visitThen e examined (ended (record { visited = []; result = found e }) 0)
+walkBy (go-left p s examined) e toLeft toRight = visitThen left e examined (toLeft p s)
+walkBy (go-right p s examined) e toLeft toRight = visitThen right e examined (toRight p s)
+walkBy (stop examined) e toLeft toRight = ended (stopAt e) examined
 
 -- "An empty link means absent."
 abbrev pub missing : Walk
-missing = ended (record { visited = []; result = absent }) 0
+missing = ended nothingVisited 0
 
 -- the walk at a link by such steps, with so many nodes left to visit: broken "if its link is above 512, it would be the
 -- 13th node", or its row is bad
-abbrev pub stepsBy : StepRule → Limits → (table store : List ℕ) → Label → (left link p s : ℕ) → Walk
+abbrev pub stepsBy : StepRule → Limits → (table store : List ℕ) → Label → (remaining link p s : ℕ) → Walk
 stepsBy step limits table store x zero zero p s = missing
 stepsBy step limits table store x zero (suc k) p s = broken
-stepsBy step limits table store x (suc left) zero p s = missing
-stepsBy step limits table store x (suc left) (suc k) p s =
+stepsBy step limits table store x (suc remaining) zero p s = missing
+stepsBy step limits table store x (suc remaining) (suc k) p s =
     elim (ltb (limits .slots) (suc k) || isBad limits (rowAt table (suc k))) [
       | true ↦ broken
       | false ↦ walkBy
           (step x (entryAt limits table store (suc k) .label) (rowAt table (suc k) .side)
           (rowAt table (suc k) .place) p s)
           (entryAt limits table store (suc k))
-          (stepsBy step limits table store x left (rowAt table (suc k) .left))
-          (stepsBy step limits table store x left (rowAt table (suc k) .right))
+          (stepsBy step limits table store x remaining (rowAt table (suc k) .left))
+          (stepsBy step limits table store x remaining (rowAt table (suc k) .right))
     ]
 
 -- the walk from the root by such steps: "Two numbers, P and S, start at 1."
@@ -107,7 +109,7 @@ abbrev pub walkFromRoot : StepRule → Limits → (table store : List ℕ) → L
 walkFromRoot step limits table store x = stepsBy step limits table store x (limits .depth) (rootLink table) 1 1
 
 -- both by the search steps
-abbrev pub steps : Limits → (table store : List ℕ) → Label → (left link p s : ℕ) → Walk
+abbrev pub steps : Limits → (table store : List ℕ) → Label → (remaining link p s : ℕ) → Walk
 steps = stepsBy stepAt
 
 unfoldable pub searchSteps : Limits → (table store : List ℕ) → Label → Walk

@@ -69,12 +69,12 @@ module _ (out middle after : List ℕ) (place end last visits places : ℕ) wher
   found-put answer slot value is word numbers = rw is (roomier 96 (omega arith) (put-then word numbers))
 
   -- the word `absent` and the counts make the line of a search that did not
-  pub absent-put : (answer : search-answer.SearchAnswer)
-      → answer ≡ search-answer.the-variants.Absent visits places → Puts out place absentWord 6 middle end
+  pub absent-put : (answer : search-answer.SearchAnswer) (below above : ℕ)
+      → answer ≡ search-answer.the-variants.Absent below above visits places → Puts out place absentWord 6 middle end
       → Puts middle end (thenCounts visits places) 43 after last
       → Puts out place (textOf (searchSays answer)) 96 after last
   unfolding textOf
-  absent-put answer is word counts = rw is (roomier 96 (omega arith) (put-then word counts))
+  absent-put answer below above is word counts = rw is (roomier 96 (omega arith) (put-then word counts))
 
   -- the word `ok`, a slot and the counts make the line of an update
   pub updated-put : (answer : update-answer.UpdateAnswer) (slot : ℕ)

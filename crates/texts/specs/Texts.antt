@@ -44,11 +44,12 @@ thenCounts visits places = thenNumber visits ++ (thenNumber places ++ lineEnd)
 
 -- "`ok slot visits places` for I and D, `found value visits places` or `absent visits places` for S, and for a refusal
 -- `no number`", "ended by byte 10".
--- (A listing and the calls that only say that they are done are no commands.)
+-- (A listing and the calls that only say that they are done are no commands. The slots beside an absent label are not
+-- printed: "`hubshell` prints as before", M-107 of document 02.)
 unfoldable pub textOf : Answer → List ℕ
 textOf (updated slot visits places) = okWord ++ (thenNumber slot ++ thenCounts visits places)
 textOf (found slot value visits places) = foundWord ++ (thenNumber value ++ thenCounts visits places)
-textOf (absent visits places) = absentWord ++ thenCounts visits places
+textOf (absent below above visits places) = absentWord ++ thenCounts visits places
 textOf (refused number) = noWord ++ (thenNumber number ++ lineEnd)
 textOf (listed count) = okWord ++ lineEnd
 textOf done = okWord ++ lineEnd

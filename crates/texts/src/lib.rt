@@ -43,7 +43,12 @@ fn put_search(answer: SearchAnswer, out: &mut [u8], place: usize) -> usize
             let end = put(out, place, b"found");
             put_answer(out, end, value as usize, visits, places)
         }
-        SearchAnswer::Absent { visits, places } => {
+        SearchAnswer::Absent {
+            below: _,
+            above: _,
+            visits,
+            places,
+        } => {
             let end = put(out, place, b"absent");
             put_counts(out, end, visits, places)
         }

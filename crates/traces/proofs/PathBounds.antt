@@ -31,35 +31,32 @@ path-ended : (remaining : ℕ) (trace : Trace) → trace .path ≡ 0 → trace .
 path-ended remaining trace no-path no-side = record { path = rw (no-path, no-side) (omega arith); length = omega arith }
 
 -- the way from a node, by its step
-path-by : {remaining : ℕ} (step : Step) (w : Spot) (row : Row) (below above : ℕ) (deeper : Spot → ℕ → ℕ → Trace)
-    → ((v : Spot) (low high : ℕ) → PathFits remaining (deeper v low high))
-    → PathFits (suc remaining) (traceBy step w row below above deeper)
-path-by {remaining} (go-left p s examined) w row below above deeper fit =
-    path-longer 0 remaining _ (omega arith) (fit (spotAt w (row .left) p s examined) below (w .link))
-path-by {remaining} (go-right p s examined) w row below above deeper fit =
-    path-longer 1 remaining _ (omega arith) (fit (spotAt w (row .right) p s examined) (w .link) above)
-path-by {remaining} (stop examined) w row below above deeper fit =
-    path-ended (suc remaining) (foundAt w examined below above) refl refl
+path-by : {remaining : ℕ} (step : Step) (w : Spot) (row : Row) (deeper : Spot → Trace)
+    → ((v : Spot) → PathFits remaining (deeper v)) → PathFits (suc remaining) (traceBy step w row deeper)
+path-by {remaining} (go-left p s examined) w row deeper fit =
+    path-longer 0 remaining _ (omega arith) (fit (spotAt w (row .left) p s (w .below) (w .link) examined))
+path-by {remaining} (go-right p s examined) w row deeper fit =
+    path-longer 1 remaining _ (omega arith) (fit (spotAt w (row .right) p s (w .link) (w .above) examined))
+path-by {remaining} (stop examined) w row deeper fit = path-ended (suc remaining) (foundAt w examined) refl refl
 
 module _ (limits : Limits) (table store : List ℕ) (x : Label) where
   -- the way is no longer than the nodes left to visit
-  pub path-fits : (remaining : ℕ) (w : Spot) (below above : ℕ)
-      → PathFits remaining (traceFrom limits table store x remaining w below above)
+  pub path-fits : (remaining : ℕ) (w : Spot) → PathFits remaining (traceFrom limits table store x remaining w)
   unfolding traceFrom
-  path-fits zero w below above = path-ended zero (endedAt w below above) refl refl
-  path-fits (suc remaining) w below above =
-      by-test limits table store x w below above (PathFits (suc remaining)) remaining
-      (path-ended (suc remaining) (endedAt w below above) refl refl)
-      (λ going. path-by (nodeStep limits table store x w) w (rowAt table (w .link)) below above
+  path-fits zero w = path-ended zero (endedAt w) refl refl
+  path-fits (suc remaining) w =
+      by-test limits table store x w (PathFits (suc remaining)) remaining
+      (path-ended (suc remaining) (endedAt w) refl refl)
+      (λ going. path-by (nodeStep limits table store x w) w (rowAt table (w .link))
       (traceFrom limits table store x remaining) (path-fits remaining))
 
 -- the code may add a side to the trace of a search that goes on from w at v
-pub can-lengthen : (limits : Limits) (table store : List ℕ) (x : Label) (w v : Spot) (below above bit : ℕ)
-    (trace : Trace) → CanTrace limits table store w → Onward w v
-    → trace ≡ traceOn limits table store x v below above → bit ≤ 1 → CanLengthen bit trace
-can-lengthen limits table store x w v below above bit trace can onward is small =
+pub can-lengthen : (limits : Limits) (table store : List ℕ) (x : Label) (w v : Spot) (bit : ℕ) (trace : Trace)
+    → CanTrace limits table store w → Onward w v → trace ≡ traceOn limits table store x v → bit ≤ 1
+    → CanLengthen bit trace
+can-lengthen limits table store x w v bit trace can onward is small =
     let fits : PathFits (limits .depth - v .visits) trace =
-    rw is (path-fits limits table store x (limits .depth - v .visits) v below above) in
+    rw is (path-fits limits table store x (limits .depth - v .visits) v) in
     let few : suc (trace .length) ≤ 64 = omega arith in
     let short : 2 ^ suc (trace .length) ≤ 2 ^ 64 = pow-le-pow-right (omega arith) few in
     record { one = small; path = omega (arith, short, two-pow-succ (trace .length)); length = omega arith }

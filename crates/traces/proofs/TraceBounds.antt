@@ -21,14 +21,14 @@ use Rattle.traces.proofs.TraceSteps.{by-test}
 use Rattle.traces.proofs.StepBounds.{StepWithin, left-within, right-within, stop-within, node-step-within}
 use Rattle.traces.proofs.PathBounds.{path-fits}
 
--- a spot from which so many nodes are left to visit, with the nearest nodes so far
-record SpotFits (limits : Limits) (table : List ℕ) (remaining : ℕ) (w : Spot) (below above : ℕ) : Type 0 where
+-- a spot from which so many nodes are left to visit
+record SpotFits (limits : Limits) (table : List ℕ) (remaining : ℕ) (w : Spot) : Type 0 where
   visits : w .visits + remaining ≤ limits .depth
   p : w .p ≤ limits .width + 1
   s : w .s ≤ limits .width + 1
   places : w .places ≤ 4097 * w .visits
-  lower : Passed limits table below
-  upper : Passed limits table above
+  lower : Passed limits table (w .below)
+  upper : Passed limits table (w .above)
 
 -- no node, and a node to visit
 passed-none : (limits : Limits) (table : List ℕ) → Passed limits table 0
@@ -55,9 +55,9 @@ numbers-longer bit trace fits =
     }
 
 module _ (limits : Limits) (table store : List ℕ) (x : Label) (fit : LimitsFit limits) where
-  module _ {remaining : ℕ} (w : Spot) (below above : ℕ) where
+  module _ {remaining : ℕ} (w : Spot) where
     -- where the search ends
-    numbers-ended : SpotFits limits table remaining w below above → NumbersFit limits table (endedAt w below above)
+    numbers-ended : SpotFits limits table remaining w → NumbersFit limits table (endedAt w)
     numbers-ended spot =
         record {
           found = omega arith;
@@ -70,15 +70,14 @@ module _ (limits : Limits) (table store : List ℕ) (x : Label) (fit : LimitsFit
         }
 
     -- where it goes on, by the node's step
-    numbers-by : {step : Step} (row : Row) (deeper : Spot → ℕ → ℕ → Trace)
-        → SpotFits limits table (suc remaining) w below above → Live limits table (w .link) (suc remaining)
+    numbers-by : {step : Step} (row : Row) (deeper : Spot → Trace)
+        → SpotFits limits table (suc remaining) w → Live limits table (w .link) (suc remaining)
         → StepWithin (limits .width + 1) step
-        → ((v : Spot) (low high : ℕ) → SpotFits limits table remaining v low high
-        → NumbersFit limits table (deeper v low high))
-        → NumbersFit limits table (traceBy step w row below above deeper)
+        → ((v : Spot) → SpotFits limits table remaining v → NumbersFit limits table (deeper v))
+        → NumbersFit limits table (traceBy step w row deeper)
     numbers-by row deeper spot node (left-within p s examined p-within s-within few) further =
-        numbers-longer 0 (deeper (spotAt w (row .left) p s examined) below (w .link))
-        (further (spotAt w (row .left) p s examined) below (w .link)
+        numbers-longer 0 (deeper (spotAt w (row .left) p s (w .below) (w .link) examined))
+        (further (spotAt w (row .left) p s (w .below) (w .link) examined)
         (record {
           visits = omega arith;
           p = p-within;
@@ -88,8 +87,8 @@ module _ (limits : Limits) (table store : List ℕ) (x : Label) (fit : LimitsFit
           upper = passed-node limits table (w .link) (suc remaining) node;
         }))
     numbers-by row deeper spot node (right-within p s examined p-within s-within few) further =
-        numbers-longer 1 (deeper (spotAt w (row .right) p s examined) (w .link) above)
-        (further (spotAt w (row .right) p s examined) (w .link) above
+        numbers-longer 1 (deeper (spotAt w (row .right) p s (w .link) (w .above) examined))
+        (further (spotAt w (row .right) p s (w .link) (w .above) examined)
         (record {
           visits = omega arith;
           p = p-within;
@@ -110,21 +109,21 @@ module _ (limits : Limits) (table store : List ℕ) (x : Label) (fit : LimitsFit
         }
 
   -- the numbers from a spot on
-  numbers-from : (remaining : ℕ) (w : Spot) (below above : ℕ) → SpotFits limits table remaining w below above
-      → NumbersFit limits table (traceFrom limits table store x remaining w below above)
+  numbers-from : (remaining : ℕ) (w : Spot) → SpotFits limits table remaining w
+      → NumbersFit limits table (traceFrom limits table store x remaining w)
   unfolding traceFrom
-  numbers-from zero w below above spot = numbers-ended w below above spot
-  numbers-from (suc remaining) w below above spot =
-      by-test limits table store x w below above (NumbersFit limits table) remaining (numbers-ended w below above spot)
+  numbers-from zero w spot = numbers-ended w spot
+  numbers-from (suc remaining) w spot =
+      by-test limits table store x w (NumbersFit limits table) remaining (numbers-ended w spot)
       (λ going. let node = live limits table (w .link) (suc remaining) _ refl going in
-      numbers-by w below above (rowAt table (w .link)) (traceFrom limits table store x remaining) spot node
+      numbers-by w (rowAt table (w .link)) (traceFrom limits table store x remaining) spot node
       (node-step-within limits table store x w (node .good) (spot .p) (spot .s)) (numbers-from remaining))
 
   -- the trace of a search
   pub trace-fits : TraceFits limits table (traced limits table store x)
   unfolding traced
   trace-fits =
-      let first : SpotFits limits table (limits .depth) (rootSpot table) 0 0 = record {
+      let first : SpotFits limits table (limits .depth) (rootSpot table) = record {
         visits = omega arith;
         p = omega arith;
         s = omega arith;
@@ -133,13 +132,13 @@ module _ (limits : Limits) (table store : List ℕ) (x : Label) (fit : LimitsFit
         upper = passed-none limits table;
       } in
       record {
-        way = path-fits limits table store x (limits .depth) (rootSpot table) 0 0;
-        numbers = numbers-from (limits .depth) (rootSpot table) 0 0 first;
+        way = path-fits limits table store x (limits .depth) (rootSpot table);
+        numbers = numbers-from (limits .depth) (rootSpot table) first;
       }
 
 -- the trace from the root on is the trace of the search, within its bounds
 pub trace-from-root : (limits : Limits) (table store : List ℕ) (x : Label) (r : Trace) → SizesFit limits table store
-    → r ≡ traceOn limits table store x (rootSpot table) 0 0
+    → r ≡ traceOn limits table store x (rootSpot table)
     → (r ≡ traced limits table store x) × TraceFits limits table r
 unfolding traced
 trace-from-root limits table store x r sizes is =

@@ -1,11 +1,9 @@
 -- What a search may do at a node to visit: its counts and slots fit their words.
--- `can-end`: it may end there.  `slot-fits`: the node's link is a word.
+-- `can-end`: it may end there.
 -- `can-step`: the counts of the node's step may be added.  `can-go-on`: it may go on after the step.
 use mathlib.Core.List.{List}
 use Prim.Native.Nat.{ℕ, _-_, _≤_}
 use native.Mathlib.Omega.{arith}
-use mir.Syntax.{w16}
-use mir.Val.{Fits}
 use Rattle.types.specs.declared.Limits.{Limits}
 use Rattle.nodes.specs.declared.Spot.{Spot}
 use Rattle.nodes.specs.declared.Step.{Step}
@@ -17,10 +15,6 @@ module _ (limits : Limits) (table store : List ℕ) (w : Spot)
   -- the search may end with the node's label
   pub can-end : (examined : ℕ) → CanTrace limits table store w → examined ≤ 4097 → CanEnd w examined
   can-end examined can few = record { link = omega arith; visits = omega arith; places = can .places; few = few }
-
-  -- the node's slot fits a word
-  pub slot-fits : CanTrace limits table store w → Fits w16 (w .link)
-  slot-fits can = omega arith
 
   -- the counts of its step may be added
   pub can-step : (t : Step) → CanTrace limits table store w → t .examined ≤ 4097 → CanStep w t

@@ -12,24 +12,32 @@ use Rattle.nodes.specs.declared.Spot.{Spot}
 use Rattle.nodes.specs.Nodes.{haltsAt, nodeStep}
 use Rattle.traces.specs.declared.Trace.{Trace}
 
--- the search starts at the root, with P and S at 1
+-- the search starts at the root, with P and S at 1 and no node on either side
 abbrev pub rootSpot : List ℕ → Spot
-rootSpot table = record { link = rootLink table; p = 1; s = 1; visits = 0; places = 0 }
+rootSpot table = record { link = rootLink table; p = 1; s = 1; below = 0; above = 0; visits = 0; places = 0 }
 
--- the spot after w, at a son's link, with P and S after a step that examined so many places
-abbrev pub spotAt : Spot → (link p s examined : ℕ) → Spot
-spotAt w link p s examined =
-    record { link = link; p = p; s = s; visits = w .visits + 1; places = w .places + examined }
+-- the spot after w, at a son's link, with P and S and the nearest nodes after a step that examined so many places
+abbrev pub spotAt : Spot → (link p s below above examined : ℕ) → Spot
+spotAt w link p s below above examined =
+    record {
+      link = link;
+      p = p;
+      s = s;
+      below = below;
+      above = above;
+      visits = w .visits + 1;
+      places = w .places + examined;
+    }
 
 -- the search ends at w without the label
-abbrev pub endedAt : Spot → (below above : ℕ) → Trace
-endedAt w below above =
+abbrev pub endedAt : Spot → Trace
+endedAt w =
     record {
       found = 0;
       p = w .p;
       s = w .s;
-      below = below;
-      above = above;
+      below = w .below;
+      above = w .above;
       path = 0;
       length = 0;
       visits = w .visits;
@@ -37,14 +45,14 @@ endedAt w below above =
     }
 
 -- the search ends with the label of the node at w
-abbrev pub foundAt : Spot → (examined below above : ℕ) → Trace
-foundAt w examined below above =
+abbrev pub foundAt : Spot → (examined : ℕ) → Trace
+foundAt w examined =
     record {
       found = w .link;
       p = w .p;
       s = w .s;
-      below = below;
-      above = above;
+      below = w .below;
+      above = w .above;
       path = 0;
       length = 0;
       visits = w .visits + 1;
@@ -68,32 +76,30 @@ longer bit trace =
 
 -- the trace from a node with this row, by its step there: left of the node it is the nearest larger one, right of it
 -- the nearest smaller one
-abbrev pub traceBy : Step → Spot → Row → (below above : ℕ) → (deeper : Spot → (below above : ℕ) → Trace) → Trace
-traceBy (go-left p s examined) w row below above deeper =
-    longer 0 (deeper (spotAt w (row .left) p s examined) below (w .link))
-traceBy (go-right p s examined) w row below above deeper =
-    longer 1 (deeper (spotAt w (row .right) p s examined) (w .link) above)
-traceBy (stop examined) w row below above deeper = foundAt w examined below above
+abbrev pub traceBy : Step → Spot → Row → (deeper : Spot → Trace) → Trace
+traceBy (go-left p s examined) w row deeper =
+    longer 0 (deeper (spotAt w (row .left) p s (w .below) (w .link) examined))
+traceBy (go-right p s examined) w row deeper =
+    longer 1 (deeper (spotAt w (row .right) p s (w .link) (w .above) examined))
+traceBy (stop examined) w row deeper = foundAt w examined
 
--- the trace from a spot on, with so many nodes left to visit; below and above: the slots of the nearest smaller and
--- larger node so far, 0 for none
-unfoldable pub traceFrom : Limits → (table store : List ℕ) → Label → (remaining : ℕ) → Spot → (below above : ℕ) → Trace
-traceFrom limits table store x zero w below above = endedAt w below above
-traceFrom limits table store x (suc remaining) w below above =
+-- the trace from a spot on, with so many nodes left to visit
+unfoldable pub traceFrom : Limits → (table store : List ℕ) → Label → (remaining : ℕ) → Spot → Trace
+traceFrom limits table store x zero w = endedAt w
+traceFrom limits table store x (suc remaining) w =
     elim (haltsAt limits table (w .link) (suc remaining)) [
-      | true ↦ endedAt w below above
-      | false ↦ traceBy (nodeStep limits table store x w) w (rowAt table (w .link)) below above
+      | true ↦ endedAt w
+      | false ↦ traceBy (nodeStep limits table store x w) w (rowAt table (w .link))
           (traceFrom limits table store x remaining)
     ]
 
 -- the trace from a spot on, after the visits that it counts
-abbrev pub traceOn : Limits → (table store : List ℕ) → Label → Spot → (below above : ℕ) → Trace
-traceOn limits table store x w below above =
-    traceFrom limits table store x (limits .depth - w .visits) w below above
+abbrev pub traceOn : Limits → (table store : List ℕ) → Label → Spot → Trace
+traceOn limits table store x w = traceFrom limits table store x (limits .depth - w .visits) w
 
 -- the trace of the search for x
 unfoldable pub traced : Limits → (table store : List ℕ) → Label → Trace
-traced limits table store x = traceFrom limits table store x (limits .depth) (rootSpot table) 0 0
+traced limits table store x = traceFrom limits table store x (limits .depth) (rootSpot table)
 
 -- ---- bounds
 

@@ -8,15 +8,15 @@ ghost use Rattle.traces.specs.Traces.{endedAt, foundAt, longer, traceOn,
 ghost use Rattle.traces.specs.Traces.{CanTrace, CanEnd, CanLengthen, TraceFits};
 
 // The trace of a search that ends without the label.
-fn ended(spot: Spot, below: u16, above: u16) -> Trace
-    ensures { λ r. ⌜ r ≡ endedAt spot below above ⌝ }
+fn ended(spot: Spot) -> Trace
+    ensures { λ r. ⌜ r ≡ endedAt spot ⌝ }
 {
     Trace {
         found: 0,
         p: spot.p,
         s: spot.s,
-        below,
-        above,
+        below: spot.below,
+        above: spot.above,
         path: 0,
         length: 0,
         visits: spot.visits,
@@ -25,16 +25,16 @@ fn ended(spot: Spot, below: u16, above: u16) -> Trace
 }
 
 // The trace of a search that ends with the label.
-fn found(spot: Spot, examined: usize, below: u16, above: u16) -> Trace
+fn found(spot: Spot, examined: usize) -> Trace
     requires { ⌜ CanEnd spot examined ⌝ }
-    ensures { λ r. ⌜ r ≡ foundAt spot examined below above ⌝ }
+    ensures { λ r. ⌜ r ≡ foundAt spot examined ⌝ }
 {
     Trace {
         found: spot.link as u16,
         p: spot.p,
         s: spot.s,
-        below,
-        above,
+        below: spot.below,
+        above: spot.above,
         path: 0,
         length: 0,
         visits: spot.visits + 1,
@@ -60,36 +60,22 @@ fn longer(bit: usize, trace: Trace) -> Trace
     }
 }
 
-// The trace from a spot on; below and above are the slots of the nearest smaller and larger node so far, 0 for none.
-fn trace_from(
-    limits: Limits,
-    table: &[u16],
-    store: &[u8],
-    label: &[u8],
-    spot: Spot,
-    below: u16,
-    above: u16,
-) -> Trace
+// The trace from a spot on.
+fn trace_from(limits: Limits, table: &[u16], store: &[u8], label: &[u8], spot: Spot) -> Trace
     requires { ⌜ CanTrace limits (now table) (now store) spot ⌝ }
-    ensures { λ r. ⌜
-        r ≡ traceOn limits (now (table .entry)) (now (store .entry)) (now (label .entry)) spot below above ⌝ }
+    ensures { λ r. ⌜ r ≡ traceOn limits (now (table .entry)) (now (store .entry)) (now (label .entry)) spot ⌝ }
 {
     if nodes::halts(limits, table, spot.link, limits.depth - spot.visits) {
-        return ended(spot, below, above);
+        return ended(spot);
     }
     let row = words::read_row(table, spot.link);
     let step = nodes::visit(limits, store, label, spot, row);
     if step.found {
-        return found(spot, step.examined, below, above);
+        return found(spot, step.examined);
     }
-    let slot = spot.link as u16;
     let next = nodes::after(spot, row, step);
-    if step.right {
-        let deeper = trace_from(limits, table, store, label, next, slot, above);
-        return longer(1, deeper);
-    }
-    let deeper = trace_from(limits, table, store, label, next, below, slot);
-    longer(0, deeper)
+    let deeper = trace_from(limits, table, store, label, next);
+    longer(nodes::one_if(step.right), deeper)
 }
 
 // The trace of the search for a label. On a table that is not sound it may end at a broken walk, as if the label were
@@ -103,8 +89,10 @@ pub fn trace(limits: Limits, table: &[u16], store: &[u8], label: &[u8]) -> Trace
         link: table[0] as usize,
         p: 1,
         s: 1,
+        below: 0,
+        above: 0,
         visits: 0,
         places: 0,
     };
-    trace_from(limits, table, store, label, start, 0, 0)
+    trace_from(limits, table, store, label, start)
 }

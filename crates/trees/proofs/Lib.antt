@@ -17,4 +17,6 @@ pub mod MapLists
 pub mod MapLaws
 pub mod MapKept
 pub mod Searched
+pub mod SideViews
+pub mod NearestNodes
 pub mod ValidSteps

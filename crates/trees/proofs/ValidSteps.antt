@@ -15,7 +15,7 @@ use Rattle.trees.specs.Trees.{Entry, slots, size}
 use Rattle.trees.specs.Searches.{Held, absent, found, fullSearch}
 use Rattle.trees.specs.Updates.{inserted}
 use Rattle.trees.specs.Plain.{State, fresh, Call, search, insert, delete, soughtBy, afterSearch, newEntry}
-use Rattle.trees.specs.Plain.{insertIfRoom, afterInsert, afterDelete, afterHeld, afterLength, plainStep}
+use Rattle.trees.specs.Plain.{insertIfRoom, afterInsert, afterDelete, afterFullSearch, afterLength, plainStep}
 use Rattle.trees.specs.Valid.{Valid}
 use Rattle.trees.proofs.Balance.{balanced-inserted, balanced-deleted}
 use Rattle.trees.proofs.Counts.{Exactly, exactly-of-test, test-of-exactly}
@@ -59,9 +59,9 @@ module _ (capacity width : ℕ) where
         let new : Entry = record { label = x; value = v; slot = k } in
         valid-hung new long short (exactly-when-reused new (s .tree) none freed exact) (valid .within)
 
-    valid-of-search : (h : Held) → Valid capacity width (afterSearch h s .state)
-    valid-of-search absent = valid
-    valid-of-search (found e) = valid
+    valid-of-search : (h : Held) (below above : ℕ) → Valid capacity width (afterSearch h below above s .state)
+    valid-of-search absent below above = valid
+    valid-of-search (found e) below above = valid
 
     valid-of-insert : (x : Label) (v : ℕ) → 1 ≤ length x → length x ≤ width
         → (h : Held) → fullSearch x (s .tree) .result ≡ h → Valid capacity width (afterInsert capacity h x v s .state)
@@ -87,8 +87,8 @@ module _ (capacity width : ℕ) where
     }
 
     valid-of-call : (c : Call) → 1 ≤ length (soughtBy c) → length (soughtBy c) ≤ width
-        → Valid capacity width (afterHeld capacity c (fullSearch (soughtBy c) (s .tree) .result) s .state)
-    valid-of-call (search x) long short = valid-of-search (fullSearch x (s .tree) .result)
+        → Valid capacity width (afterFullSearch capacity c (fullSearch (soughtBy c) (s .tree)) s .state)
+    valid-of-call (search x) long short = valid-of-search (fullSearch x (s .tree) .result) _ _
     valid-of-call (insert x v) long short = valid-of-insert x v long short (fullSearch x (s .tree) .result) refl
     valid-of-call (delete x) long short = valid-of-delete x (fullSearch x (s .tree) .result) refl
 

@@ -1,9 +1,14 @@
--- The plain ordered map from labels to values: an ascending list of pairs, with lookup, insertion and removal.
-use mathlib.Core.List.{List, [], _∷_, map}
+-- The plain ordered map from labels to values: an ascending list of pairs, with lookup, insertion and removal, and the
+-- neighbours of a label in it.
+use mathlib.Core.Bool.{true}
+use mathlib.Core.List.{List, [], _∷_, map, List·Memᴰ}
+use mathlib.Core.Logic.{_⊎_}
 use mathlib.Core.Option.{Option, none, some}
+use mathlib.Core.Path.{_≡_}
 use Prim.Native.Nat.{ℕ}
 use Rattle.labels.specs.Labels.{Label, Comparison, smaller, same, larger, compareLabels}
-use Rattle.trees.specs.Trees.{Entry, Tree, entries}
+use Rattle.trees.specs.Trees.{Entry, Tree, Side, left, right, entries}
+use Rattle.trees.specs.Valid.{isSmaller}
 
 pub record Pair : Type 0 where
   pub label : Label
@@ -44,3 +49,17 @@ pairOf e = record { label = e .label; value = e .value }
 
 abbrev pub mapOf : Tree → List Pair
 mapOf t = map pairOf (entries t)
+
+-- ---- "the nearest smaller and nearest larger held labels" (M-107 of document 02)
+
+-- a label y on a side of x: smaller on the left, larger on the right
+abbrev pub StandsOn : Side → (y x : Label) → Type 0
+StandsOn left y x = isSmaller (compareLabels y x) ≡ true
+StandsOn right y x = isSmaller (compareLabels x y) ≡ true
+
+-- of the pairs of a map on a side of x the nearest, if there are any: every other one stands on that side of it too
+pub data Nearest (side : Side) (x : Label) (m : List Pair) : Option Pair → Type 0 where
+  no-pair : ((q : Pair) → List·Memᴰ q m → StandsOn side (q .label) x → ⊥) → Nearest side x m none
+  this-pair : (p : Pair) → List·Memᴰ p m → StandsOn side (p .label) x
+      → ((q : Pair) → List·Memᴰ q m → StandsOn side (q .label) x → (q ≡ p) ⊎ StandsOn side (q .label) (p .label))
+      → Nearest side x m (some p)

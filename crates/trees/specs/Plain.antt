@@ -7,7 +7,7 @@ use lib.Dec.{ltb, leb, eqb}
 use lib.ListN.{length}
 use Rattle.labels.specs.Labels.{Label}
 use Rattle.trees.specs.Trees.{Tree, empty, size}
-use Rattle.trees.specs.Searches.{Held, absent, found, fullSearch}
+use Rattle.trees.specs.Searches.{Held, absent, found, Search, fullSearch, slotOf}
 use Rattle.trees.specs.Updates.{inserted, deleted}
 
 -- "With it go the freed slots, last freed first, and the high mark"
@@ -32,7 +32,7 @@ soughtBy (delete x) = x
 
 pub data Reply : Type 0 where
   found-at : (slot value : ℕ) → Reply
-  not-held : Reply
+  not-held : (below above : ℕ) → Reply
   updated : (slot : ℕ) → Reply
   refused : (number : ℕ) → Reply
 
@@ -44,10 +44,11 @@ pub record After : Type 0 where
 abbrev pub refuse : ℕ → State → After
 refuse n s = record { reply = refused n; state = s }
 
--- "Search: found with the node's slot and value, or absent; the tree stays."
-abbrev pub afterSearch : Held → State → After
-afterSearch absent s = record { reply = not-held; state = s }
-afterSearch (found e) s = record { reply = found-at (e .slot) (e .value); state = s }
+-- "Search: found with the node's slot and value, or absent; the tree stays." An absent label comes with "the slots of
+-- the nearest smaller and nearest larger held labels" (M-107 of document 02).
+abbrev pub afterSearch : Held → (below above : ℕ) → State → After
+afterSearch absent below above s = record { reply = not-held below above; state = s }
+afterSearch (found e) below above s = record { reply = found-at (e .slot) (e .value); state = s }
 
 abbrev pub hung : Label → ℕ → ℕ → Tree → List ℕ → ℕ → After
 hung x v k t freed high =
@@ -79,15 +80,15 @@ afterDelete (found e) x s =
       state = record { tree = deleted x (s .tree); freed = e .slot ∷ s .freed; high = s .high };
     }
 
-abbrev pub afterHeld : ℕ → Call → Held → State → After
-afterHeld capacity (search x) h s = afterSearch h s
-afterHeld capacity (insert x v) h s = afterInsert capacity h x v s
-afterHeld capacity (delete x) h s = afterDelete h x s
+abbrev pub afterFullSearch : ℕ → Call → Search → State → After
+afterFullSearch capacity (search x) f s = afterSearch (f .result) (slotOf (f .below)) (slotOf (f .above)) s
+afterFullSearch capacity (insert x v) f s = afterInsert capacity (f .result) x v s
+afterFullSearch capacity (delete x) f s = afterDelete (f .result) x s
 
 abbrev pub afterLength : Bool → Bool → ℕ → Call → State → After
 afterLength true long capacity c s = refuse 3 s
 afterLength false true capacity c s = refuse 4 s
-afterLength false false capacity c s = afterHeld capacity c (fullSearch (soughtBy c) (s .tree) .result) s
+afterLength false false capacity c s = afterFullSearch capacity c (fullSearch (soughtBy c) (s .tree)) s
 
 -- "Any call: length 0 is refused by 3, above 64 by 4, with no search made. Otherwise the full comparison search is made
 -- first."

@@ -10,10 +10,11 @@ use Rattle.types.specs.declared.ListAnswer as list
 
 -- "A search answer is one of found with slot, value and both counts, absent with both counts, or a refusal; a delete or
 -- insert gives the slot and its search's counts"; layout, the check and the view's first call "answer only that they
--- are done"; a listing "gives their number"
+-- are done"; a listing "gives their number". With absent go "the slots of the nearest smaller and nearest larger held
+-- labels, 0 for none" (M-107 of document 02).
 pub data Answer : Type 0 where
   found : (slot value visits places : ℕ) → Answer
-  absent : (visits places : ℕ) → Answer
+  absent : (below above visits places : ℕ) → Answer
   updated : (slot visits places : ℕ) → Answer
   listed : (count : ℕ) → Answer
   done : Answer
@@ -35,7 +36,7 @@ refusalNumber WrongSlot = 11
 
 abbrev pub searchSays : search.SearchAnswer → Answer
 searchSays (search.the-variants.Found slot value visits places) = found slot value visits places
-searchSays (search.the-variants.Absent visits places) = absent visits places
+searchSays (search.the-variants.Absent below above visits places) = absent below above visits places
 searchSays (search.the-variants.Refused r) = refused (refusalNumber r)
 
 abbrev pub updateSays : update.UpdateAnswer → Answer

@@ -56,7 +56,7 @@ pub fn number_of(refusal: Refusal) -> usize
     }
 }
 
-// What a search says.
+// What a search says. With absent go the slots of the nearest smaller and the nearest larger label held, 0 for none.
 pub enum SearchAnswer {
     Found {
         slot: usize,
@@ -65,6 +65,8 @@ pub enum SearchAnswer {
         places: usize,
     },
     Absent {
+        below: usize,
+        above: usize,
         visits: usize,
         places: usize,
     },

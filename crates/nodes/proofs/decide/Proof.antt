@@ -1,6 +1,6 @@
 -- `nodes::decide` meets its contract: each order gives its step.
-use Rattle.nodes.proofs.Turns.{decide-smaller, decide-same, decide-larger}
 use borrow.Author.Needs.{needs}
+use Rattle.nodes.proofs.Turns.{decided-smaller, decided-same, decided-larger}
 use Rattle.nodes.proofs.decide.Statement.{statement}
 use Rattle.nodes.proofs.decide.Tie as tie
 
@@ -13,20 +13,26 @@ sub-examined c = search needs
 enum-told : tie.Need-enum-told
 enum-told c = search needs
 
+onward-requires : tie.Need-onward-requires
+onward-requires c κs = search needs
+
 enum-told-2 : tie.Need-enum-told-2
 enum-told-2 c = search needs
 
 enum-told-3 : tie.Need-enum-told-3
 enum-told-3 c = search needs
 
+onward-requires-2 : tie.Need-onward-requires-2
+onward-requires-2 c κs = search needs
+
 returns : tie.Need-returns
-returns c = (search decide-smaller, search needs)
+returns c = (search decided-smaller, search needs)
 
 returns-2 : tie.Need-returns-2
-returns-2 c = (search decide-same, search needs)
+returns-2 c = (search decided-same, search needs)
 
 returns-3 : tie.Need-returns-3
-returns-3 c = (search decide-larger, search needs)
+returns-3 c = (search decided-larger, search needs)
 
 pub decide-spec : {M : Type 1} → statement M
 decide-spec =
@@ -35,8 +41,10 @@ decide-spec =
     add-examined
     sub-examined
     enum-told
+    onward-requires
     enum-told-2
     enum-told-3
+    onward-requires-2
     returns
     returns-2
     returns-3)

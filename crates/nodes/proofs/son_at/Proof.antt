@@ -13,8 +13,8 @@ mul-base c = search needs
 add-base : tie.Need-add-base
 add-base c = search needs
 
-link-index-requires : tie.Need-link-index-requires
-link-index-requires c κs = search needs
+one-if-requires : tie.Need-one-if-requires
+one-if-requires c κs = search needs
 
 add-result : tie.Need-add-result
 add-result c = search needs
@@ -35,7 +35,7 @@ son-at-spec =
     sub-base
     mul-base
     add-base
-    link-index-requires
+    one-if-requires
     add-result
     mul-result
     shared-slice-read-result

@@ -8,19 +8,20 @@ use borrow.Author.Needs.{needs}
 use Rattle.tables.specs.Steps.{steps}
 use Rattle.tables.specs.Outcomes.{walkAnswer}
 use Rattle.nodes.specs.Bounds.{AtRow, Live}
-use Rattle.nodes.proofs.Rows.{live, live-row, live-side, live-slot, son-of-row}
-use Rattle.search.proofs.Moves.{Went, went-as, went-left, went-right, went-smaller, went-larger, ended-same}
+use Rattle.nodes.proofs.Rows.{live, live-row, live-slot, son-of-row}
+use Rattle.search.proofs.Moves.{Went, went-as, went-left, went-right, went-smaller, went-larger}
+use Rattle.search.proofs.Moves.{ended-same, near-after}
 use Rattle.search.proofs.Answers.{Reached, reached-root, reached-son, walk-halted, walk-found}
 use Rattle.search.proofs.walks.walk.Statement.{statement}
 use Rattle.search.proofs.walks.walk.Tie as tie
 
 abbrev Inv-loop : tie.InvT-loop
-Inv-loop limits table store label root link₀ remaining₀ places₀ ends₀ link remaining places ends =
+Inv-loop limits table store label root link₀ remaining₀ places₀ ends₀ near₀ link remaining places ends near =
     Reached limits table store label (walkAnswer (steps limits table store label (limits .depth) root 1 1))
-    link remaining places ends
+    link remaining places ends near
 
 abbrev μ-loop : tie.MeasureT-loop
-μ-loop limits table store label root link₀ remaining₀ places₀ ends₀ link remaining places ends = remaining
+μ-loop limits table store label root link₀ remaining₀ places₀ ends₀ near₀ link remaining places ends near = remaining
 
 -- what is known at a node whose row is read
 module _ (c : tie.After-read-row Inv-loop μ-loop) where
@@ -50,6 +51,12 @@ loop-holds c = search reached-root
 halts-requires : tie.Need-halts-requires Inv-loop μ-loop
 halts-requires c κs = search needs
 
+array-read-halted : tie.Need-array-read-halted Inv-loop μ-loop
+array-read-halted c = search needs
+
+array-read-halted-2 : tie.Need-array-read-halted-2 Inv-loop μ-loop
+array-read-halted-2 c = search needs
+
 sub-halted : tie.Need-sub-halted Inv-loop μ-loop
 sub-halted c = search needs
 
@@ -74,10 +81,20 @@ mul-turn c =
     record { fits = omega arith }
 
 array-read-turn : tie.Need-array-read-turn Inv-loop μ-loop
-array-read-turn c = search live-side
+array-read-turn c = let side = slot (c .before .before) .good .sided in omega arith
+
+add-turn : tie.Need-add-turn Inv-loop μ-loop
+add-turn c =
+    let side = slot (c .before .before) .good .sided in
+    record { fits = omega arith }
+
+mul-turn-2 : tie.Need-mul-turn-2 Inv-loop μ-loop
+mul-turn-2 c =
+    let side = slot (c .before .before) .good .sided in
+    record { fits = omega arith }
 
 array-read-turn-2 : tie.Need-array-read-turn-2 Inv-loop μ-loop
-array-read-turn-2 c = search needs
+array-read-turn-2 c = let side = slot (c .before .before) .good .sided in omega arith
 
 turn-requires : tie.Need-turn-requires Inv-loop μ-loop
 turn-requires c κs = search needs
@@ -114,6 +131,9 @@ enum-told-4 c = search needs
 array-write-ends : tie.Need-array-write-ends Inv-loop μ-loop
 array-write-ends c = search needs
 
+array-write-ends-2 : tie.Need-array-write-ends-2 Inv-loop μ-loop
+array-write-ends-2 c = search needs
+
 enum-told-5 : tie.Need-enum-told-5 Inv-loop μ-loop
 enum-told-5 c = search needs
 
@@ -138,17 +158,17 @@ returns-2 c =
     let turn = compared .before .before .before in
     let at = read turn in
     let loop = reached at .loop in
-    let found = ended-same _ _ _ _ _ (loop .places) (loop .ends) _ (slot at) (loop .inv .two) (turn .turn .ensures)
+    let found = ended-same _ _ _ _ _ (loop .places) (loop .ends) _ (slot at) (loop .inv .held) (turn .turn .ensures)
     (compared .before .enum-told3 .given .1) _ (compared .compare-row .ensures .0) (compared .compare-row .ensures .1)
     (c .before .before .enum-told5 .given .1) in
-    walk-found _ _ _ _ _ _ _ _ _ (loop .inv) _ (tested at .before .halts .ensures) (tested at .if1 .left) _
+    walk-found _ _ _ _ _ _ _ _ _ _ (loop .inv) _ (tested at .before .halts .ensures) (tested at .if1 .left) _
     (at .read-row .ensures) _ again _ _ _ found refl (omega arith)
 
 enum-told-6 : tie.Need-enum-told-6 Inv-loop μ-loop
 enum-told-6 c = search needs
 
-array-write-ends-2 : tie.Need-array-write-ends-2 Inv-loop μ-loop
-array-write-ends-2 c = search needs
+array-write-ends-3 : tie.Need-array-write-ends-3 Inv-loop μ-loop
+array-write-ends-3 c = search needs
 
 -- how the walk goes on where the ways meet
 went : (c : tie.At-match-came Inv-loop μ-loop)
@@ -160,21 +180,30 @@ went c =
     let at = slot (read (c .before)) in
     let turn = c .before .turn .ensures in
     let loop = reached (read (c .before)) .loop in
-    let two = loop .inv .two in
+    let held = loop .inv .held in
     ⊎-elim
     (λ w. went-as _ _ _ (w .4) (w .3) (w .2)
-    (went-left _ _ _ _ _ (loop .places) (loop .ends) _ at two turn (w .1 .given .1)))
+    (went-left _ _ _ _ _ (loop .places) (loop .ends) _ at held turn (w .1 .given .1)))
     (⊎-elim
     (λ w. went-as _ _ _ (w .4) (w .3) (w .2)
-    (went-right _ _ _ _ _ (loop .places) (loop .ends) _ at two turn (w .1 .given .1)))
+    (went-right _ _ _ _ _ (loop .places) (loop .ends) _ at held turn (w .1 .given .1)))
     (⊎-elim
     (λ w. let sum = w .5 in went-as _ _ _ (w .7) (w .6) (omega arith)
-    (went-smaller _ _ _ _ _ (loop .places) (loop .ends) _ at two turn (w .1 .given .1) _ (w .2 .ensures .0)
+    (went-smaller _ _ _ _ _ (loop .places) (loop .ends) _ at held turn (w .1 .given .1) _ (w .2 .ensures .0)
     (w .2 .ensures .1) (w .4 .given .1)))
     (λ w. let sum = w .5 in went-as _ _ _ (w .7) (w .6) (omega arith)
-    (went-larger _ _ _ _ _ (loop .places) (loop .ends) _ at two turn (w .1 .given .1) _ (w .2 .ensures .0)
+    (went-larger _ _ _ _ _ (loop .places) (loop .ends) _ at held turn (w .1 .given .1) _ (w .2 .ensures .0)
     (w .2 .ensures .1) (w .4 .given .1)))))
     (c .match .came)
+
+one-if-requires : tie.Need-one-if-requires Inv-loop μ-loop
+one-if-requires c κs = search needs
+
+mul-near : tie.Need-mul-near Inv-loop μ-loop
+mul-near c = let small = c .one-if .ensures .1 in record { fits = omega arith }
+
+array-write-near : tie.Need-array-write-near Inv-loop μ-loop
+array-write-near c = let small = c .one-if .ensures .1 in omega arith
 
 son-at-requires : tie.Need-son-at-requires Inv-loop μ-loop
 son-at-requires c κs = search live-row
@@ -183,16 +212,18 @@ cast-link : tie.Need-cast-link Inv-loop μ-loop
 cast-link c = search needs
 
 sub-remaining : tie.Need-sub-remaining Inv-loop μ-loop
-sub-remaining c = let room = node (read (c .before .before)) .room in omega arith
+sub-remaining c = let room = node (read (c .before .before .before)) .room in omega arith
 
 loop-less : tie.Need-loop-less Inv-loop μ-loop
-loop-less c = let room = node (read (c .before .before)) .room in omega arith
+loop-less c = let room = node (read (c .before .before .before)) .room in omega arith
 
 loop-again : tie.Need-loop-again Inv-loop μ-loop
 loop-again c =
-    let at = read (c .before .before) in
-    reached-son _ _ _ _ _ _ _ _ _ (reached at .loop .inv) _ (tested at .before .halts .ensures) (tested at .if1 .left) _
-    (at .read-row .ensures) _ _ _ _ (son-of-row _ _ _ _ (at .read-row .ensures) (c .son-at .ensures)) (went (c .before))
+    let came = c .before .before in
+    let at = read (came .before) in
+    reached-son _ _ _ _ _ _ _ _ _ _ (reached at .loop .inv) _ (tested at .before .halts .ensures) (tested at .if1 .left)
+    _ (at .read-row .ensures) _ _ _ _ _ (son-of-row _ _ _ _ (at .read-row .ensures) (c .son-at .ensures)) (went came)
+    (near-after _ _ _ _ (c .before .one-if .ensures .0) (reached at .loop .inv .two))
 
 pub walk-spec : {M : Type 1} → statement M
 walk-spec =
@@ -202,6 +233,8 @@ walk-spec =
     μ-loop
     loop-holds
     halts-requires
+    array-read-halted
+    array-read-halted-2
     sub-halted
     halted-requires
     returns
@@ -210,6 +243,8 @@ walk-spec =
     cast-d
     mul-turn
     array-read-turn
+    add-turn
+    mul-turn-2
     array-read-turn-2
     turn-requires
     enum-told
@@ -221,13 +256,17 @@ walk-spec =
     add-places-2
     enum-told-4
     array-write-ends
+    array-write-ends-2
     enum-told-5
     read-row-requires-2
     sub-visits
     add-visits
     returns-2
     enum-told-6
-    array-write-ends-2
+    array-write-ends-3
+    one-if-requires
+    mul-near
+    array-write-near
     son-at-requires
     cast-link
     sub-remaining

@@ -8,9 +8,9 @@ use borrow.Fn.PlainCycle.{Measures, is, falls, and}
 use Rattle.nodes.specs.Bounds.{Live}
 use Rattle.nodes.proofs.Rows.{live, live-row, live-slot}
 use Rattle.traces.specs.Traces.{CanTrace}
-use Rattle.traces.proofs.TraceSteps.{trace-halted, trace-found, trace-right, trace-left}
+use Rattle.traces.proofs.TraceSteps.{trace-halted, trace-found, trace-onward}
 use Rattle.traces.proofs.PathBounds.{can-lengthen}
-use Rattle.traces.proofs.TraceNeeds.{can-end, slot-fits, can-step, can-go-on}
+use Rattle.traces.proofs.TraceNeeds.{can-end, can-step, can-go-on}
 use Rattle.traces.proofs.tracing.trace_from.Reads as own
 use Rattle.traces.proofs.tracing.trace_from.Kinds as kinds
 use Rattle.traces.proofs.tracing.+trace_from.Lts-trace_from as lts
@@ -18,6 +18,7 @@ use Rattle.words.proofs.read_row.Reads as read-row-reads
 use Rattle.nodes.proofs.halts.Reads as halts-reads
 use Rattle.nodes.proofs.visit.Reads as visit-reads
 use Rattle.nodes.proofs.after.Reads as after-reads
+use Rattle.nodes.proofs.one_if.Reads as one-if-reads
 use Rattle.traces.proofs.tracing.ended.Reads as ended-reads
 use Rattle.traces.proofs.tracing.found.Reads as found-reads
 use Rattle.traces.proofs.tracing.longer.Reads as longer-reads
@@ -49,20 +50,22 @@ called t = (
   after-reads.Learnt,
   deeper t,
   own.Post,
+  one-if-reads.Asked,
+  one-if-reads.Learnt,
   longer-reads.Asked,
   longer-reads.Learnt,
 )
 
 -- the function's entry, from the spot after a node's step
 abbrev entry : (t : ℕ) → lts.After-after (called t) (entered t) own.Post → lts.Start (called t) (entered t) own.Post
-entry t c = c .before .before .before .before .before .before .before .before .before .before .before .before
+entry t c = c .before .before .before .before .before .before .before .before .before .before .before
 
 -- the node that the step was made at
 node : (t : ℕ) (c : lts.After-after (called t) (entered t) own.Post)
     → Live (entry t c .args .limits) (entry t c .args .table .now) (entry t c .args .spot .link)
     (entry t c .args .limits .depth - entry t c .args .spot .visits)
 node t c =
-    let tested = c .before .before .before .before .before in
+    let tested = c .before .before .before .before in
     live _ _ _ _ _ (tested .before .halts .ensures) (tested .if1 .left)
 
 -- the measure falls
@@ -103,35 +106,24 @@ found-requires t c κs = search (can-end, live)
 returns-2 : (t : ℕ) → lts.Need-returns-2 (called t) (entered t) own.Post
 returns-2 t c = search trace-found
 
-cast-slot : (t : ℕ) → lts.Need-cast-slot (called t) (entered t) own.Post
-cast-slot t c = search (slot-fits, live)
-
 after-requires : (t : ℕ) → lts.Need-after-requires (called t) (entered t) own.Post
 after-requires t c κs = search (can-step, live)
 
 trace-from-requires : (t : ℕ) → lts.Need-trace-from-requires (called t) (entered t) own.Post
-trace-from-requires t c κs = (fewer t (c .before), onward t (c .before))
+trace-from-requires t c κs = (fewer t c, onward t c)
+
+one-if-requires : (t : ℕ) → lts.Need-one-if-requires (called t) (entered t) own.Post
+one-if-requires t c κs = search needs
 
 longer-requires : (t : ℕ) → lts.Need-longer-requires (called t) (entered t) own.Post
 longer-requires t c κs =
     let gone = c .before .before in
     let start = entry t gone in
-    can-lengthen _ _ _ _ _ _ _ _ _ _ (start .pre .1) (gone .after .ensures .1) (c .trace-from .ensures) (omega arith)
+    can-lengthen _ _ _ _ _ _ _ _ (start .pre .1) (gone .after .ensures .1) (c .before .trace-from .ensures)
+    (c .one-if .ensures .1)
 
 returns-3 : (t : ℕ) → lts.Need-returns-3 (called t) (entered t) own.Post
-returns-3 t c = search trace-right
-
-trace-from-requires-2 : (t : ℕ) → lts.Need-trace-from-requires-2 (called t) (entered t) own.Post
-trace-from-requires-2 t c κs = (fewer t (c .before), onward t (c .before))
-
-longer-requires-2 : (t : ℕ) → lts.Need-longer-requires-2 (called t) (entered t) own.Post
-longer-requires-2 t c κs =
-    let gone = c .before .before in
-    let start = entry t gone in
-    can-lengthen _ _ _ _ _ _ _ _ _ _ (start .pre .1) (gone .after .ensures .1) (c .trace-from2 .ensures) (omega arith)
-
-returns-4 : (t : ℕ) → lts.Need-returns-4 (called t) (entered t) own.Post
-returns-4 t c = search trace-left
+returns-3 t c = search trace-onward
 
 pub +trace-from-spec : {M : Type 1} → statement M
 +trace-from-spec = close μ λ t. lts.spec (called t)
@@ -145,11 +137,8 @@ pub +trace-from-spec : {M : Type 1} → statement M
     (visit-requires t)
     (found-requires t)
     (returns-2 t)
-    (cast-slot t)
     (after-requires t)
     (trace-from-requires t)
+    (one-if-requires t)
     (longer-requires t)
     (returns-3 t)
-    (trace-from-requires-2 t)
-    (longer-requires-2 t)
-    (returns-4 t)
