@@ -89,7 +89,7 @@ abbrev pub case : ℕ → Question → Finding → Case
 case number asks shows = record { number = number; asks = asks; shows = shows }
 
 -- the table: calls made on a fresh table, and after them each case by its number on paper; case 6 as M-106 of document
--- 02 has it: "Case 6 becomes 3 and 3"
+-- 02 has it: "Case 6 becomes 3 and 3"; absent answers with their neighbours first, as M-107 asks
 unfoldable pub starred : List Scene
 starred =
     record { calls = []; cases = case 1 (call (search (a ∷ []))) (answers (absent 0 0 0 0)) ∷ [] }

@@ -1,26 +1,25 @@
 -- The slots of an absent answer, on a sound table and store, show the map's true neighbours.
 -- true-neighbours: the nodes that a search passes last are the nearest of the map, and their slots show them.
-use mathlib.Core.List.{List}
 use mathlib.Core.Option.{Option, none, some, Option·map}
-use mathlib.Core.Path.{_≡_, refl, sym, ap, _∙_}
+use mathlib.Core.Path.{_≡_, refl}
 use Prim.Native.Nat.{ℕ, zero, suc, _≤_}
 use native.Mathlib.Omega.{arith}
 use Rattle.types.specs.declared.Limits.{Limits}
-use Rattle.types.specs.Answers.{Answer, absent as absent-with, refused}
+use Rattle.types.specs.Answers.{absent as absent-with}
 use Rattle.labels.specs.Labels.{Label}
 use Rattle.labels.specs.Neighbours.{Neighbour, none-below, held, none-above}
 use Rattle.labels.proofs.Clashes.{clash}
 use Rattle.trees.specs.Trees.{Entry, Tree, NodeOf, at-root, on-left, on-right, Side, left, right}
 use Rattle.trees.specs.Searches.{Held, absent, found, Search, fullSearch, slotOf}
 use Rattle.trees.specs.Heights.{Deepest}
-use Rattle.trees.specs.Plain.{State, search, plainStep}
+use Rattle.trees.specs.Plain.{State}
 use Rattle.trees.specs.Valid.{Valid}
 use Rattle.trees.specs.Map.{Pair, Nearest, pairOf}
 use Rattle.trees.proofs.SideViews.{nearestOn}
 use Rattle.trees.proofs.NearestNodes.{nearest-node, nearest-of-search}
 use Rattle.tables.specs.Words.{rowAt}
 use Rattle.tables.specs.Written.{Memory, written, writtenTable, writtenStore}
-use Rattle.tables.specs.Steps.{Walk, broken, ended, searchSteps}
+use Rattle.tables.specs.Steps.{ended, searchSteps}
 use Rattle.tables.specs.Outcomes.{Verdict, pass, refuse, ofMemory, ofLabel, answerBy, answerOf, walkAnswer}
 use Rattle.tables.specs.Outcomes.{searchOutcome, placesOf}
 use Rattle.tables.specs.Claims.{mapIn, labelIn}

@@ -23,7 +23,7 @@ use Rattle.cases.specs.Cases.{a, b, c, d, roster}
 use Rattle.demands.specs.Trials.{SearchVersion, MeetsSearch, NeverFinds, Count, visits, places, ofCounts}
 use Rattle.demands.specs.Trials.{countIn, countOf, SearchesAnswer, SearchesCount, SkipsFirst, StopsAtZero}
 use Rattle.demands.specs.Trials.{FindsExactly, AnswersCaseSix, SearchesAsBefore, TiesOnBoth}
-use Rattle.demands.specs.Trials.{NeighboursZero, OneForBoth, exchanged, NeighboursExchanged}
+use Rattle.demands.specs.NeighbourTrials.{NeighboursZero, OneForBoth, exchanged, NeighboursExchanged}
 use Rattle.demands.proofs.Computed.{after, fair-one, fair-two, searched, onlyA, capital, shown}
 use Rattle.demands.proofs.Computed.{small-is-not-capital, sidedTable, sidedStore, sided-words, sided-bytes}
 use Rattle.demands.proofs.CountsGiven.{search-counts}

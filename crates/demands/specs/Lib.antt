@@ -4,5 +4,6 @@ pub mod Spellings
 pub mod Ties
 pub mod NextTo
 pub mod Trials
+pub mod NeighbourTrials
 pub mod UpdateTrials
 pub mod CallTrials

@@ -124,29 +124,3 @@ abbrev pub TiesOnBoth : SearchVersion → Type 0
 TiesOnBoth f =
     (table store : List ℕ) (x : Label) → length table ≡ tableLength hub → length store ≡ storeLength hub
     → LabelFits hub x → f table store x ≡ walkAnswer (walkFromRoot stepOnBoth hub table store x)
-
--- M-107 of document 02: the neighbours of absent labels are always 0
-abbrev pub NeighboursZero : SearchVersion → Type 0
-NeighboursZero f =
-    (table store : List ℕ) (x : Label) → Fair table store x
-    → (below above visits places : ℕ) → f table store x ≡ absent below above visits places → (below ≡ 0) × (above ≡ 0)
-
--- one node for both, as the last one visited
-abbrev pub OneForBoth : SearchVersion → Type 0
-OneForBoth f =
-    (table store : List ℕ) (x : Label) → Fair table store x
-    → (below above visits places : ℕ) → f table store x ≡ absent below above visits places → below ≡ above
-
--- the two exchanged
-abbrev pub exchanged : Answer → Answer
-exchanged (found slot value v q) = found slot value v q
-exchanged (absent below above v q) = absent above below v q
-exchanged (updated slot v q) = updated slot v q
-exchanged (listed count) = listed count
-exchanged done = done
-exchanged (refused number) = refused number
-
-abbrev pub NeighboursExchanged : SearchVersion → Type 0
-NeighboursExchanged f =
-    (table store : List ℕ) (x : Label) → Fair table store x
-    → f table store x ≡ exchanged (searchOutcome hub table store x)

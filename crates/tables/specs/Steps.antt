@@ -1,6 +1,6 @@
 -- 'The search steps' of document 01, with the line of M-106 and the neighbours of M-107 of document 02, over a table
 -- and a store of any content.
-use mathlib.Core.List.{List, []}
+use mathlib.Core.List.{List}
 use mathlib.Core.Bool.{Bool, true, false, _&&_, _||_, cond}
 use Prim.Native.Nat.{ℕ, zero, suc, _+_, _-_, compare, Ordering, Ordering·lt, Ordering·eq, Ordering·gt}
 use lib.Dec.{eqb, ltb}
