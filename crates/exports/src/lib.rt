@@ -21,7 +21,7 @@ pub extern "C" fn strap_layout(table: &mut [u16], store: &mut [u8]) -> usize
     packs::packed_done(index::layout(table, store))
 }
 
-// Searches for a label.
+// Searches for a label: its slot and value, or the slots of its neighbours.
 #[no_mangle]
 pub extern "C" fn strap_search(table: &[u16], store: &[u8], label: &[u8]) -> usize
     ensures { λ r. ⌜ r ≡ packed (searchOutcome hub (now (table .entry)) (now (store .entry)) (now (label .entry))) ⌝ }

@@ -34,7 +34,7 @@ unfoldable pub turnOf : (side d reached s : ℕ) → Turn
 turnOf side d reached s =
     cond (eqb reached d) (cond (ltb d s) Right Compare) (cond (eqb (oneIf (ltb d reached)) side) Right Left)
 
--- ---- M-107 of document 02: "the last nodes where the walk went right and left"
+-- ---- the step at a node, with "the last nodes where the walk went right and left" (M-107 of document 02)
 
 -- the slots of the nearest smaller and the nearest larger node, after the walk went past the node in a slot
 abbrev pub belowAfter : (right : Bool) (slot below : ℕ) → ℕ
@@ -70,8 +70,6 @@ stepFrom w slot (stop examined) =
       above = w .above;
       examined = examined;
     }
-
--- ----
 
 -- the step at the node in a slot, of which the row was read
 unfoldable pub rowStep : Limits → (store : List ℕ) → Label → (link : ℕ) → Row → (p s : ℕ) → definition.Step

@@ -18,7 +18,7 @@ pub extern "C" fn strap_page_layout(table: &mut [u16], store: &mut [u8]) -> usiz
     packs::packed_done(index::page::layout(table, store))
 }
 
-// Searches for a label.
+// Searches for a label: its slot and value, or the slots of its neighbours.
 #[no_mangle]
 pub extern "C" fn strap_page_search(table: &[u16], store: &[u8], label: &[u8]) -> usize
     ensures { λ r. ⌜ r ≡ packed (searchOutcome page (now (table .entry)) (now (store .entry)) (now (label .entry))) ⌝ }
