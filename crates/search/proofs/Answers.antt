@@ -6,7 +6,6 @@ use mathlib.Core.Path.{_≡_, refl, sym, ap, _∙_}
 use mathlib.Core.Logic.{_≢_}
 use mathlib.Core.List.{List, [], _∷_}
 use mathlib.Core.Bool.{Bool, true, false, _||_, true≢false}
-use mathlib.Core.Option.{Option, none, some}
 use Prim.Native.Nat.{ℕ, zero, suc, _+_, _-_, _*_, _≤_, _<_}
 use native.Mathlib.Omega.{arith}
 use lib.Dec.{ltb, eqb}
@@ -19,11 +18,9 @@ use Rattle.types.specs.declared.SearchAnswer.the-variants.{Found}
 use Rattle.types.specs.declared.Refusal.{Refusal}
 use Rattle.types.specs.Answers.{Answer, refused, refusalNumber, searchSays}
 use Rattle.labels.specs.Labels.{Label}
-use Rattle.trees.specs.Trees.{Entry, Side, left, right}
-use Rattle.trees.specs.Searches.{last, slotOf}
+use Rattle.trees.specs.Trees.{Entry}
 use Rattle.tables.specs.Words.{rootLink, rowAt, entryAt}
-use Rattle.tables.specs.Steps.{stop, isBad, Walk, broken, ended, visitThen, walkBy, missing, stepsBy, steps}
-use Rattle.tables.specs.Steps.{searchSteps}
+use Rattle.tables.specs.Steps.{stop, isBad, broken, walkBy, missing, stepsBy, steps, searchSteps}
 use Rattle.tables.specs.Outcomes.{pass, ofMemory, ofLabel, walkAnswer, searchOutcome}
 use Rattle.lengths.specs.declared.Early.{Early}
 use Rattle.lengths.specs.declared.Early.the-variants.{Pass, Refused}
@@ -32,54 +29,9 @@ use Rattle.words.specs.Limits.{LimitsFit}
 use Rattle.lengths.proofs.FirstLines.{lengths-refused, lengths-passed, lengths-fit}
 use Rattle.nodes.specs.Nodes.{haltsAt, belowAfter, aboveAfter, rowStep, sonOf}
 use Rattle.nodes.proofs.Rows.{live}
-use Rattle.search.specs.Walks.{haltedAt, slotAfter, answerAfter, answerFrom}
+use Rattle.search.specs.Walks.{haltedAt, answerAfter, answerFrom}
 use Rattle.search.proofs.Moves.{goOn, Ends, Went, Passed}
-
--- with no node before it, the slot of the last node is that of the rest of a walk
-slot-after-none : (later : Option Entry) → slotAfter 0 later ≡ slotOf later
-slot-after-none none = refl
-slot-after-none (some e) = refl
-
--- with nothing behind it, a walk's answer is its own
-answer-after-nothing : (walk : Walk) → answerAfter 0 0 0 0 walk ≡ walkAnswer walk
-answer-after-nothing broken = refl
-answer-after-nothing (ended s places) =
-    let v : 0 + length (s .visited) ≡ length (s .visited) = omega arith in
-    let p : 0 + places ≡ places = omega arith in
-    rw (v, p, slot-after-none (s .below), slot-after-none (s .above))
-
--- the last of a node and those after it stands in the node's slot, unless there is a later one
-slot-after-last : (before : ℕ) (e : Entry) (later : Option Entry)
-    → slotAfter before (last e later) ≡ slotAfter (e .slot) later
-slot-after-last before e none = refl
-slot-after-last before e (some f) = refl
-
--- the side of the son that a walk goes to
-abbrev sideTo : Bool → Side
-sideTo true = right
-sideTo false = left
-
--- a node that the walk went past counts as one visit, and its places; it is the nearest one on its side so far
-answer-after-visited : (to : Bool) (below above visits places examined : ℕ) (e : Entry) (walk : Walk)
-    → answerAfter below above visits places (visitThen (sideTo to) e examined walk)
-    ≡ answerAfter (belowAfter to (e .slot) below) (aboveAfter to (e .slot) above) (visits + 1) (places + examined) walk
-answer-after-visited to below above visits places examined e broken = refl
-answer-after-visited to below above visits places examined e (ended s more) =
-    let v : visits + 1 + length (s .visited) ≡ visits + suc (length (s .visited)) = omega arith in
-    let p : places + examined + more ≡ places + (examined + more) = omega arith in
-    rw (v, p) (go to)
-  where
-    go : (to : Bool)
-        → answerAfter below above visits places (visitThen (sideTo to) e examined (ended s more))
-        ≡ answerAfter (belowAfter to (e .slot) below) (aboveAfter to (e .slot) above) visits places
-        (ended (record {
-          visited = e .label ∷ s .visited;
-          result = s .result;
-          below = s .below;
-          above = s .above;
-        }) (examined + more))
-    go true = rw (slot-after-last below e (s .below))
-    go false = rw (slot-after-last above e (s .above))
+use Rattle.search.proofs.Behind.{answer-after-nothing, answer-after-visited}
 
 -- a walk has reached a link: the counts are within their bounds, and its answer from there on is the whole answer
 pub record Reached (limits : Limits) (table store : List ℕ) (x : Label) (whole : Answer) (link remaining places : ℕ)

@@ -77,7 +77,8 @@ abbrev pub visitThen : Side → Entry → ℕ → Walk → Walk
 visitThen side e examined broken = broken
 visitThen side e examined (ended s places) = ended (visit side e s) (examined + places)
 
--- the walk from a node, by its step there, whichever line it was, and the walks into its sons
+-- the walk from a node, by its step there and the walks into its sons. Whichever line made the step, it yields the node
+-- itself: going left, as the nearest larger one so far, going right, as the nearest smaller one
 abbrev pub walkBy : Step → Entry → (ℕ → ℕ → Walk) → (ℕ → ℕ → Walk) → Walk
 walkBy (go-left p s examined) e toLeft toRight = visitThen left e examined (toLeft p s)
 walkBy (go-right p s examined) e toLeft toRight = visitThen right e examined (toRight p s)

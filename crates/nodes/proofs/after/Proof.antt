@@ -1,6 +1,6 @@
 -- `nodes::after` meets its contract: the link is the son's, and the counts grow by the step's.
 use borrow.Author.Needs.{needs}
-use Rattle.nodes.proofs.Turns.{after-step}
+use Rattle.nodes.proofs.Yields.{after-step}
 use Rattle.nodes.proofs.after.Statement.{statement}
 use Rattle.nodes.proofs.after.Tie as tie
 

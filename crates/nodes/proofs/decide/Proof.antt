@@ -1,6 +1,6 @@
 -- `nodes::decide` meets its contract: each order gives its step.
 use borrow.Author.Needs.{needs}
-use Rattle.nodes.proofs.Turns.{decided-smaller, decided-same, decided-larger}
+use Rattle.nodes.proofs.Yields.{decided-smaller, decided-same, decided-larger}
 use Rattle.nodes.proofs.decide.Statement.{statement}
 use Rattle.nodes.proofs.decide.Tie as tie
 

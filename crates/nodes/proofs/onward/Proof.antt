@@ -1,6 +1,6 @@
 -- `nodes::onward` meets its contract: the node is the nearest one on the side that the step leaves it.
 use mathlib.Core.Path.{refl}
-use Rattle.nodes.proofs.Turns.{onward-right, onward-left}
+use Rattle.nodes.proofs.Yields.{onward-right, onward-left}
 use Rattle.nodes.proofs.onward.Statement.{statement}
 use Rattle.nodes.proofs.onward.Tie as tie
 

@@ -1,6 +1,6 @@
 -- `nodes::visit` meets its contract: each turn is taken.
 use borrow.Author.Needs.{needs}
-use Rattle.nodes.proofs.Turns.{visit-left, visit-right, visit-compared}
+use Rattle.nodes.proofs.Yields.{visit-left, visit-right, visit-compared}
 use Rattle.nodes.proofs.visit.Statement.{statement}
 use Rattle.nodes.proofs.visit.Tie as tie
 
