@@ -1,7 +1,7 @@
 -- The answer of a walk with something behind it: visits and places, and the nearest nodes so far.
 -- `answer-after-nothing`: with nothing behind it, it is the walk's own.
--- `sideTo`: the side of a son.  `answer-after-visited`: a node that the walk went past counts, and is the nearest one on
--- its side so far.
+-- `sideTo`: the side of a son.
+-- `answer-after-visited`: a node that the walk went past counts, and is the nearest one on its side so far.
 use mathlib.Core.Path.{_≡_, refl}
 use mathlib.Core.List.{_∷_}
 use mathlib.Core.Bool.{Bool, true, false}
