@@ -40,6 +40,8 @@ static void compare_search(const struct workload *w, const uint8_t *x, size_t n)
         fail("a search was refused");
     if (said != index->digital_search(w->table, index->words, w->store, index->bytes, x, n))
         fail("the C of the same method answers otherwise");
+    if (said != index->tuned_search(w->table, index->words, w->store, index->bytes, x, n))
+        fail("the tuned C answers otherwise");
     if (!same_but_places(said, index->digital_before(w->table, index->words, w->store, index->bytes, x, n)))
         fail("the steps before M-106 answer otherwise");
     if (strap_kind_of(whole) != strap_kind_of(said) || strap_visits_of(whole) != strap_visits_of(said) ||
@@ -77,7 +79,7 @@ static void flip(struct workload *w, struct bit b)
         w->store[b.at] ^= (uint8_t)b.mask;
 }
 
-/* The two soundness tests, and the two searches. */
+/* The two soundness tests, and the three searches. */
 static void compare_changed(struct workload *w, const uint8_t *x, size_t n)
 {
     const struct index *index = w->index;
@@ -86,8 +88,9 @@ static void compare_changed(struct workload *w, const uint8_t *x, size_t n)
     flip(w, b);
     if (index->check(w->table, words, w->store, bytes) != index->sound_check(w->table, words, w->store, bytes))
         fail("the soundness tests differ");
-    if (index->search(w->table, words, w->store, bytes, x, n) !=
-        index->digital_search(w->table, words, w->store, bytes, x, n))
+    uint64_t said = index->search(w->table, words, w->store, bytes, x, n);
+    if (said != index->digital_search(w->table, words, w->store, bytes, x, n) ||
+        said != index->tuned_search(w->table, words, w->store, bytes, x, n))
         fail("the searches differ on broken memory");
     flip(w, b);
 }

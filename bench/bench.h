@@ -11,6 +11,7 @@ enum { SLOTS = STRAP_PAGE_SLOTS, WIDTH = STRAP_PAGE_WIDTH, DEPTH = 6 };
 enum { WORDS = STRAP_PAGE_WORDS, BYTES = STRAP_PAGE_BYTES };
 #define digital_search page_digital_search
 #define digital_before page_digital_before
+#define tuned_search page_tuned_search
 #define sound_check page_sound_check
 #define whole_search page_whole_search
 #define whole_counts page_whole_counts
@@ -79,6 +80,11 @@ static inline uint64_t pack(enum strap_kind kind, uint64_t places, uint64_t visi
     return (uint64_t)kind | places << 4 | visits << 16 | one << 32 | other << 48;
 }
 
+static inline uint64_t refusal(unsigned number)
+{
+    return pack(STRAP_REFUSED, 0, 0, number, 0);
+}
+
 /* For the contestants that count nothing: the value plus 1, or 0 where the label is absent. */
 
 #ifdef __cplusplus
@@ -92,6 +98,9 @@ typedef uint64_t whole_call(const uint16_t *table, const uint8_t *store, const u
 
 /* digital.c: the same search in plain C, over the same words and bytes; and by the steps before M-106 */
 search_call digital_search, page_digital_search, digital_before, page_digital_before;
+
+/* tuned.c: the same search in C tuned by hand */
+search_call tuned_search, page_tuned_search;
 
 /* sound.c: the soundness test in plain C */
 check_call sound_check, page_sound_check;

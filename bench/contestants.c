@@ -20,6 +20,8 @@ LOOP(loop_index, strap_search(w->table, STRAP_WORDS, w->store, STRAP_BYTES, x, n
 LOOP(loop_index_of_page, strap_page_search(w->table, STRAP_PAGE_WORDS, w->store, STRAP_PAGE_BYTES, x, n))
 LOOP(loop_digital, digital_search(w->table, STRAP_WORDS, w->store, STRAP_BYTES, x, n))
 LOOP(loop_digital_of_page, page_digital_search(w->table, STRAP_PAGE_WORDS, w->store, STRAP_PAGE_BYTES, x, n))
+LOOP(loop_tuned, tuned_search(w->table, STRAP_WORDS, w->store, STRAP_BYTES, x, n))
+LOOP(loop_tuned_of_page, page_tuned_search(w->table, STRAP_PAGE_WORDS, w->store, STRAP_PAGE_BYTES, x, n))
 LOOP(loop_whole, whole_search(w->table, w->folded_store, x, n))
 LOOP(loop_whole_of_page, page_whole_search(w->table, w->folded_store, x, n))
 LOOP(loop_array, array_search(w->entries, w->labels.count, x, n))
@@ -30,6 +32,7 @@ const struct contestant contestant[CONTESTANTS] = {
     {"nothing", loop_nothing, loop_nothing},
     {"index", loop_index, loop_index_of_page},
     {"C, same method", loop_digital, loop_digital_of_page},
+    {"C, tuned", loop_tuned, loop_tuned_of_page},
     {"AVL, whole labels", loop_whole, loop_whole_of_page},
     {"sorted array", loop_array, loop_array},
     {"std::map", loop_map, loop_map},

@@ -5,7 +5,7 @@
 #include "workloads.h"
 
 /* The first is the loop with a call that does nothing. */
-enum { NOTHING, INDEX, CONTESTANTS = 7 };
+enum { NOTHING, INDEX, CONTESTANTS = 8 };
 
 /* A contestant's loop over a workload of the hub, and over one of the page. */
 extern const struct contestant {

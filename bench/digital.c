@@ -3,33 +3,28 @@
 #include "bench.h"
 #include <stdbool.h>
 
-static uint64_t refused(enum strap_refusal number)
-{
-    return pack(STRAP_REFUSED, 0, 0, number, 0);
-}
-
 static inline __attribute__((always_inline)) uint64_t by_steps(bool first_line, const uint16_t *table, size_t words,
                                                                const uint8_t *store, size_t bytes,
                                                                const uint8_t *label, size_t n)
 {
     if (words != WORDS)
-        return refused(STRAP_WRONG_TABLE);
+        return refusal(STRAP_WRONG_TABLE);
     if (bytes != BYTES)
-        return refused(STRAP_WRONG_STORE);
+        return refusal(STRAP_WRONG_STORE);
     if (n == 0)
-        return refused(STRAP_EMPTY_LABEL);
+        return refusal(STRAP_EMPTY_LABEL);
     if (n > WIDTH)
-        return refused(STRAP_LONG_LABEL);
+        return refusal(STRAP_LONG_LABEL);
     size_t p = 1, s = 1, visits = 0, places = 0;
     size_t last[2] = {0, 0}; /* the nodes where it went left and right */
     size_t link = table[0];
     while (link != 0) {
         if (visits >= DEPTH || link > SLOTS)
-            return refused(STRAP_BROKEN_WALK);
+            return refusal(STRAP_BROKEN_WALK);
         const uint16_t *row = table + 4 + 8 * (link - 1);
         size_t d = row[2], side = row[3], len = row[5];
         if (len == 0 || len > WIDTH || d == 0 || d > len + 1 || side > 1)
-            return refused(STRAP_BROKEN_WALK);
+            return refusal(STRAP_BROKEN_WALK);
         visits++;
         size_t reached = side == 0 ? p : s;
         /* with s above d, what has reached d is p: side successor goes by s */

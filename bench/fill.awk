@@ -106,6 +106,7 @@ function filled(text,   command, columns, n) {
 
 END {
     called["C, same method"] = "the C of the same method"
+    called["C, tuned"] = "that C tuned by hand"
     called["AVL, whole labels"] = "the AVL tree with whole labels"
     called["sorted array"] = "the sorted array"
     called["std::map"] = "C++ `std::map`"

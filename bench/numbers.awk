@@ -78,7 +78,7 @@ BEGIN {
     figure["bar", "alike"] = "0.30"
     figure["bar", "other"] = "0.45"
     figure["bar", "more"] = 5000
-    contestants = split("C, same method;AVL, whole labels;sorted array;std::map;BTreeMap", contestant, ";")
+    contestants = split("C, same method;C, tuned;AVL, whole labels;sorted array;std::map;BTreeMap", contestant, ";")
     contestant[0] = "index"
     kinds = split("instructions best lower median upper", kind, " ")
 }
