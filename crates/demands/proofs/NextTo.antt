@@ -31,10 +31,10 @@ use Rattle.demands.proofs.LabelsRead.{label-read}
 use Rattle.demands.proofs.OnSound.{of-sound, map-of-written}
 
 -- what an absent answer says of the search behind it
-pub record Missed (f : Search) (below above : ℕ) : Type 0 where
-  pub missing : f .result ≡ absent
-  pub lower : slotOf (f .below) ≡ below
-  pub upper : slotOf (f .above) ≡ above
+record Missed (f : Search) (below above : ℕ) : Type 0 where
+  missing : f .result ≡ absent
+  lower : slotOf (f .below) ≡ below
+  upper : slotOf (f .above) ≡ above
 
 -- An answer by what is held that says absent has the neighbours that it was given.
 missed-by : (h : Held) (b a v q below above visits places : ℕ)

@@ -5,7 +5,8 @@
 -- exact-search-fails: a search exact to the byte.
 -- compared-tie-fails, search-as-before-fails: a search that compares at the tie of case 6.
 -- ties-on-both-fail: a search with the line of the tie on side successor too.
--- no-neighbours-fails, one-for-both-fails, exchanged-neighbours-fail: searches with other neighbours.
+-- no-neighbours-fails, one-for-both-fails, exchanged-neighbours-fail, uncompared-left-out-fails: searches with other
+-- neighbours.
 -- no-one-count: two answers with unlike counts do not give one number.
 -- fixed-search-counts-fail, invented-search-counts-fail: searches with counts that are not those of the steps.
 use mathlib.Core.List.{List, [], _∷_}
@@ -129,6 +130,13 @@ exchanged-neighbours-fail f other meets =
     let given = other (after roster .table) (after roster .store) (d ∷ a ∷ []) (fair-two roster) in
     let crossed : exchanged (searched roster (d ∷ a ∷ [])) ≡ absent 3 4 3 3 = ap exchanged (shown .tie-now) in
     clash (cc (given, answered f meets roster (d ∷ a ∷ []), shown .tie-now, crossed))
+
+-- At "c" the walk goes right by the tie's line. A search that leaves out moves without a comparison says slot 1, "b",
+-- the last node before it where the walk went right, and fails.
+pub uncompared-left-out-fails : (f : SearchVersion) → AnswersCaseSix (absent 1 3 3 3) f → ¬ MeetsSearch f
+unfolding after
+uncompared-left-out-fails f answers meets =
+    clash (cc (answers, answered f meets roster (d ∷ a ∷ []), shown .tie-now))
 
 -- A search that gives one fixed number for its visits, or for its places, fails.
 pub fixed-search-counts-fail : (k : Count) (n : ℕ) (f : SearchVersion)
