@@ -1,7 +1,7 @@
 /* The benchmark: the contestants over the workloads, and what they answer and cost.
  *
  *   bench answers     compares every contestant's answers with the others'
- *   bench workloads   names, visits and places of every workload
+ *   bench workloads   names, visits, places and their limits of every workload
  *   bench count       instructions: run it under callgrind, which dumps once for each number
  *   bench time        nanoseconds for a call on the named workloads, over many rounds in turn
  */

@@ -1,35 +1,96 @@
-/* Counts: visits and places; and under callgrind instructions, a dump for each number.
+/* Counts: visits, places and their limits; and under callgrind instructions, a dump for each number.
  *
  * A line is a workload's number or `run`, a figure's name and its value; a dump's name has the calls for its value. */
 #include "contestants.h"
 #include <stdio.h>
 #include <valgrind/callgrind.h>
 
+/* ---- visits and places */
+
+/* How many leading bytes two labels share, capital and small letters one. A shared end is not counted. */
+static unsigned shared_bytes(const struct label *a, const struct label *b)
+{
+    unsigned i = 0;
+    while (i < a->len && i < b->len && number_of[a->bytes[i]] == number_of[b->bytes[i]])
+        i++;
+    return i;
+}
+
+/* The most leading bytes that a label shares with any one of a list; 0 where there is none. */
+static unsigned most_shared(const struct labels *l, const struct label *x)
+{
+    unsigned most = 0;
+    for (size_t i = 0; i < l->count; i++) {
+        unsigned shared = shared_bytes(l->at + i, x);
+        if (shared > most)
+            most = shared;
+    }
+    return most;
+}
+
+/* Sums over a workload's searches; how many of them are at their limit, and how many find no label. */
+struct sums {
+    unsigned visits, places, before, whole, limit, by_length, at_limit, absent;
+};
+
+static void add_search(struct sums *sums, const struct workload *w, const struct label *x)
+{
+    const struct index *index = w->index;
+    uint64_t said = index->search(w->table, index->words, w->store, index->bytes, x->bytes, x->len);
+    uint64_t before = index->digital_before(w->table, index->words, w->store, index->bytes, x->bytes, x->len);
+    uint64_t whole = index->whole_counts(w->table, w->folded_store, x->bytes, x->len);
+    unsigned visits = strap_visits_of(said), places = strap_places_of(said);
+    unsigned limit = visits + most_shared(&w->labels, x);
+    if (places > limit)
+        fail("a search examines more places than its limit");
+    sums->visits += visits;
+    sums->places += places;
+    sums->before += strap_places_of(before);
+    sums->whole += strap_places_of(whole);
+    sums->limit += limit;
+    sums->by_length += visits + (unsigned)x->len;
+    sums->at_limit += places == limit;
+    sums->absent += strap_kind_of(said) == STRAP_ABSENT;
+}
+
+static void print_names(int number, const struct workload *w)
+{
+    printf("%d\tseries\t%s\n%d\tname\t%s\n", number, w->series, number, w->name);
+    if (w->table_name != NULL)
+        printf("%d\tseries\t%stables\n%d\ttable\t%s\n", number, w->index == &page ? "page " : "", number,
+               w->table_name);
+}
+
+static void print_mean(int number, const char *what, unsigned sum)
+{
+    printf("%d\t%s\t%f\n", number, what, (double)sum / QUERIES);
+}
+
+/* A workload where no search finds a label is one of strangers. */
+static void print_sums(int number, const struct sums *sums)
+{
+    if (sums->absent == QUERIES)
+        printf("%d\tseries\tstrangers\n", number);
+    print_mean(number, "visits", sums->visits);
+    print_mean(number, "places, index", sums->places);
+    print_mean(number, "places before", sums->before);
+    printf("%d\tsaved\t%u\n", number, sums->before - sums->places);
+    print_mean(number, "places, whole labels", sums->whole);
+    print_mean(number, "places, limit", sums->limit);
+    print_mean(number, "places, limit by length", sums->by_length);
+    printf("%d\tat the limit\t%u\n", number, sums->at_limit);
+}
+
 void print_workloads(void)
 {
     printf("run\tqueries\t%d\nrun\tupdates\t%d\n", QUERIES, UPDATES);
     for (int number = 0; number < WORKLOADS; number++) {
         const struct workload *w = make(number);
-        double visits = 0, digital = 0, before = 0, whole = 0;
-        for (size_t i = 0; i < QUERIES; i++) {
-            const uint8_t *x = w->queries.at[i].bytes;
-            size_t n = w->queries.at[i].len;
-            uint64_t said = w->index->search(w->table, w->index->words, w->store, w->index->bytes, x, n);
-            visits += strap_visits_of(said);
-            digital += strap_places_of(said);
-            said = w->index->digital_before(w->table, w->index->words, w->store, w->index->bytes, x, n);
-            before += strap_places_of(said);
-            whole += strap_places_of(w->index->whole_counts(w->table, w->folded_store, x, n));
-        }
-        printf("%d\tseries\t%s\n%d\tname\t%s\n", number, w->series, number, w->name);
-        if (w->table_name != NULL)
-            printf("%d\tseries\t%stables\n%d\ttable\t%s\n", number, w->index == &page ? "page " : "", number,
-                   w->table_name);
-        printf("%d\tvisits\t%f\n", number, visits / QUERIES);
-        printf("%d\tplaces, index\t%f\n", number, digital / QUERIES);
-        printf("%d\tplaces before\t%f\n", number, before / QUERIES);
-        printf("%d\tsaved\t%.0f\n", number, before - digital);
-        printf("%d\tplaces, whole labels\t%f\n", number, whole / QUERIES);
+        struct sums sums = {0};
+        for (size_t i = 0; i < QUERIES; i++)
+            add_search(&sums, w, w->queries.at + i);
+        print_names(number, w);
+        print_sums(number, &sums);
     }
 }
 

@@ -1,6 +1,6 @@
 # Reads the run's numbers, lines of a workload, a figure's name and its value, and derives from them what is shown:
-# searches less the loop itself, bars, times as ratios, and how each contestant stands. A figure that did not come ends
-# the program.
+# searches less the loop itself, bars, limits and times as ratios, and how each contestant stands. A figure that did
+# not come ends the program.
 function stop(why) {
     print "bench: " why > "/dev/stderr"
     exit 1
@@ -89,7 +89,7 @@ $2 == "series" { list[$3, ++size[$3]] = $1; next }
 END {
     if (size["nine"] != 9 || size["page"] != 2 || size["tables"] != 4 || size["page tables"] != 1)
         stop("a workload is missing")
-    if (size["spelling"] != 2 || size["held"] != 10 || size["common"] != 15)
+    if (size["spelling"] != 2 || size["held"] != 10 || size["common"] != 15 || size["strangers"] != 6)
         stop("a workload is missing")
     derive_searches("nine")
     derive_searches("page")
@@ -99,6 +99,8 @@ END {
     derive_named("nine", 1)
     derive_named("page", 1)
     derive_named("spelling", 0)
+    for (i = 1; i <= size["strangers"]; i++)
+        compare(list["strangers", i], "places, limit", "places, limit by length")
     for (i = 1; i <= size["tables"]; i++) {
         w = list["tables", i]
         factor = get("bar", get(w, "table") ~ /sharing/ ? "alike" : "other")

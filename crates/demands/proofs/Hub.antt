@@ -5,6 +5,7 @@
 -- hub-one-name, hub-spelling-stays: spellings of one name.
 -- hub-tie-saves: the places that the first line of the search steps saves.
 -- hub-true-neighbours: who stands next to a missing label.
+-- hub-shared-limit, hub-length-limit, hub-no-smaller-limit: limits on places, the second from the first.
 use native.Mathlib.Omega.{arith}
 use Rattle.types.specs.Sizes.{hub, page}
 use Rattle.tables.proofs.Depths.{hub-depth}
@@ -15,6 +16,7 @@ use Rattle.demands.specs.OtherMemory.{RefusesTableOf}
 use Rattle.demands.specs.Spellings.{OneName, SpellingStays}
 use Rattle.demands.specs.Ties.{TieSaves}
 use Rattle.demands.specs.NextTo.{TrueNeighbours}
+use Rattle.demands.specs.PlaceLimits.{SharedLimit, LengthLimit, NoSmallerLimit}
 use Rattle.demands.proofs.CostRule.{cost-rule}
 use Rattle.demands.proofs.OrderedMap.{ordered-map}
 use Rattle.demands.proofs.Counts.{counts-within}
@@ -24,6 +26,8 @@ use Rattle.demands.proofs.OneName.{one-name}
 use Rattle.demands.proofs.Spellings.{spelling-stays}
 use Rattle.demands.proofs.Ties.{tie-saves}
 use Rattle.demands.proofs.NextTo.{true-neighbours}
+use Rattle.demands.proofs.PlaceLimits.{shared-limit, length-limit}
+use Rattle.demands.proofs.Sharp.{no-smaller-limit}
 
 -- Demand 2 at the hub.
 pub hub-ordered-map : OrderedMap hub
@@ -63,3 +67,14 @@ hub-tie-saves = tie-saves hub hub-depth
 -- On a sound table of the hub, the slots beside an absent label show the map's true neighbours.
 pub hub-true-neighbours : TrueNeighbours hub
 hub-true-neighbours = true-neighbours hub hub-depth
+
+-- On a sound table of the hub, places are at most visits plus the most leading bytes shared with one label held; the limit
+-- by the sought label's length follows; and with one label held no limit that reads labels alone is smaller.
+pub hub-shared-limit : SharedLimit hub
+hub-shared-limit = shared-limit hub hub-depth
+
+pub hub-length-limit : LengthLimit hub
+hub-length-limit = length-limit hub hub-shared-limit
+
+pub hub-no-smaller-limit : NoSmallerLimit hub
+hub-no-smaller-limit = no-smaller-limit hub hub-depth (omega arith)

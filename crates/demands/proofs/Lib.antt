@@ -18,6 +18,8 @@ pub mod Breaks
 pub mod TieSteps
 pub mod Ties
 pub mod NextTo
+pub mod PlaceLimits
+pub mod Sharp
 pub mod Hub
 pub mod Page
 pub mod SoundAfter
@@ -26,3 +28,4 @@ pub mod CountsGiven
 pub mod RefutedSearches
 pub mod RefutedUpdates
 pub mod RefutedCalls
+pub mod RefutedLimits

@@ -5,6 +5,7 @@
 -- page-one-name, page-spelling-stays: spellings of one name.
 -- page-tie-saves: the places that the first line of the search steps saves.
 -- page-true-neighbours: who stands next to a missing label.
+-- page-shared-limit, page-length-limit, page-no-smaller-limit: limits on places, the second from the first.
 use native.Mathlib.Omega.{arith}
 use Rattle.types.specs.Sizes.{hub, page}
 use Rattle.tables.proofs.Depths.{page-depth}
@@ -15,6 +16,7 @@ use Rattle.demands.specs.OtherMemory.{RefusesTableOf}
 use Rattle.demands.specs.Spellings.{OneName, SpellingStays}
 use Rattle.demands.specs.Ties.{TieSaves}
 use Rattle.demands.specs.NextTo.{TrueNeighbours}
+use Rattle.demands.specs.PlaceLimits.{SharedLimit, LengthLimit, NoSmallerLimit}
 use Rattle.demands.proofs.CostRule.{cost-rule}
 use Rattle.demands.proofs.OrderedMap.{ordered-map}
 use Rattle.demands.proofs.Counts.{counts-within}
@@ -24,6 +26,8 @@ use Rattle.demands.proofs.OneName.{one-name}
 use Rattle.demands.proofs.Spellings.{spelling-stays}
 use Rattle.demands.proofs.Ties.{tie-saves}
 use Rattle.demands.proofs.NextTo.{true-neighbours}
+use Rattle.demands.proofs.PlaceLimits.{shared-limit, length-limit}
+use Rattle.demands.proofs.Sharp.{no-smaller-limit}
 
 -- Demand 2 at the page.
 pub page-ordered-map : OrderedMap page
@@ -63,3 +67,14 @@ page-tie-saves = tie-saves page page-depth
 -- On a sound table of the page, the slots beside an absent label show the map's true neighbours.
 pub page-true-neighbours : TrueNeighbours page
 page-true-neighbours = true-neighbours page page-depth
+
+-- On a sound table of the page, places are at most visits plus the most leading bytes shared with one label held; the limit
+-- by the sought label's length follows; and with one label held no limit that reads labels alone is smaller.
+pub page-shared-limit : SharedLimit page
+page-shared-limit = shared-limit page page-depth
+
+pub page-length-limit : LengthLimit page
+page-length-limit = length-limit page page-shared-limit
+
+pub page-no-smaller-limit : NoSmallerLimit page
+page-no-smaller-limit = no-smaller-limit page page-depth (omega arith)

@@ -1,7 +1,10 @@
 -- A search on a valid state written out agrees with the full comparison search of the plain tree.
 -- search-of-written: so it does, with the bounds on visits and places.
+use native.Mathlib.Omega.{arith}
 use Rattle.types.specs.declared.Limits.{Limits}
 use Rattle.labels.specs.Labels.{Label}
+use Rattle.labels.proofs.Shared.{most-within}
+use Rattle.trees.specs.Trees.{labels}
 use Rattle.trees.specs.Heights.{Deepest}
 use Rattle.trees.specs.Plain.{State}
 use Rattle.trees.specs.Valid.{Valid}
@@ -29,5 +32,6 @@ search-of-written limits deepest s valid x =
       few = least-of-visits x (s .tree) (valid .balanced);
       shallow = visits-within-depth (limits .slots) (limits .depth) deepest x (s .tree) (valid .balanced)
           (size-within limits s valid);
-      short = walked .short;
+      shared = walked .shared;
+      short = omega (arith, walked .shared, most-within x (labels (s .tree)));
     }

@@ -3,6 +3,8 @@ pub mod OtherMemory
 pub mod Spellings
 pub mod Ties
 pub mod NextTo
+pub mod PlaceLimits
+pub mod LimitTrials
 pub mod Trials
 pub mod NeighbourTrials
 pub mod UpdateTrials

@@ -10,3 +10,4 @@ pub mod Late
 pub mod Letters
 pub mod Spellings
 pub mod Branches
+pub mod Shared

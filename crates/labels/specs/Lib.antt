@@ -1,3 +1,4 @@
 pub mod Labels
 pub mod Letters
 pub mod Neighbours
+pub mod Shared

@@ -29,9 +29,9 @@ mirrored-successor-step Ordering·eq (same i) d p s = refl
 mirrored-successor-step Ordering·eq (larger i) d p s = refl
 
 -- the law of difference places reads the same both ways
-lies-mirrored : {j k dp ds end : ℕ} {r : Comparison} → Lies j k dp ds end r → Lies k j ds dp end (mirrored r)
+lies-mirrored : {j k dp ds : ℕ} {r : Comparison} → Lies j k dp ds r → Lies k j ds dp (mirrored r)
 lies-mirrored (lies-smaller i first dp-is k-is) = lies-larger i first k-is dp-is
-lies-mirrored (lies-same i j-is k-is i-is) = lies-same i k-is j-is i-is
+lies-mirrored (lies-same i j-is k-is reached) = lies-same i k-is j-is (omega arith)
 lies-mirrored (lies-larger i first j-is ds-is) = lies-smaller i first ds-is j-is
 
 -- so does the invariant
@@ -39,23 +39,23 @@ invariant-mirrored : {j k P S : ℕ} → Invariant j k P S → Invariant k j S P
 invariant-mirrored holds = omega arith
 
 -- the mirror image of a step fits what is found the other way round
-fits-mirrored : {j k P S end : ℕ} (r : Comparison) {step : Step} → Fits k j S P end (mirrored r) step
-    → Fits j k P S end r (mirroredStep step)
+fits-mirrored : {j k P S : ℕ} (r : Comparison) {step : Step} → Fits k j S P (mirrored r) step
+    → Fits j k P S r (mirroredStep step)
 fits-mirrored (smaller i) (fits-right _ P' S' examined holds few) =
     fits-left i S' P' examined (invariant-mirrored holds) (omega arith)
 fits-mirrored (same i) (fits-stop _ examined few) = fits-stop i examined (omega arith)
 fits-mirrored (larger i) (fits-left _ P' S' examined holds few) =
     fits-right i S' P' examined (invariant-mirrored holds) (omega arith)
 
-module _ (j k dp ds P S end : ℕ) (holds : Invariant j k P S) (j-ends : j ≤ end) (k-ends : k ≤ end) where
+module _ (j k dp ds P S : ℕ) (holds : Invariant j k P S) where
   -- where the successor's difference place is at least as large, the step by S fits; q is what the comparison that
   -- starts at place ds finds
   pub fits-on-successor-side : {r : Comparison} (q : Comparison) {o : Ordering} → dp ≤ ds
-      → Lies j k dp ds end r → Ordered S ds o → (ds ≤ placeOf r → q ≡ r)
-      → Fits j k P S end r (successorStep o (compareStep q ds P S) P S)
+      → Lies j k dp ds r → Ordered S ds o → (ds ≤ placeOf r → q ≡ r)
+      → Fits j k P S r (successorStep o (compareStep q ds P S) P S)
   fits-on-successor-side {r} q {o} tie lies ordered late =
       rw (mirrored-successor-step o q ds P S)
       (fits-mirrored r
-      (fits-on-predecessor-side k j ds dp S P end (invariant-mirrored holds) k-ends j-ends (mirrored q) tie
+      (fits-on-predecessor-side k j ds dp S P (invariant-mirrored holds) (mirrored q) tie
       (lies-mirrored lies) ordered
       (λ reached. ap mirrored (late (rw place-of-mirrored at reached)))))

@@ -8,7 +8,6 @@ use mathlib.Core.Path.{_≡_, refl}
 use Prim.Native.Nat.{ℕ, suc, _+_, _≤_, _<_, max}
 use native.Mathlib.Omega.{arith}
 use lib.Dec.{eqb, ltb}
-use lib.ListN.{length}
 use borrow.Author.Tests.{eqb-true, ltb-true}
 use Rattle.labels.specs.Labels.{Label, Comparison, smaller, same, larger, compareLabels, compareFrom}
 use Rattle.labels.specs.Labels.{Finds, is-smaller, is-same, is-larger}
@@ -23,16 +22,14 @@ use Rattle.tables.specs.Steps.{Step, go-left, go-right, stop, linesAt, isTie, s
 use Rattle.steps.proofs.Places.{Lies, Fits, fits-left, fits-stop, fits-right, fits-on-predecessor-side}
 use Rattle.steps.proofs.Places.{larger-at-tie, fits-at-tie}
 use Rattle.steps.proofs.Mirror.{fits-on-successor-side}
-use Rattle.steps.proofs.Window.{placeBelow, placeAbove, Sought, place-below-within, place-above-within}
-use Rattle.steps.proofs.Window.{lies-of-finds}
+use Rattle.steps.proofs.Window.{placeBelow, placeAbove, Sought, lies-of-finds}
 
 -- a step at a node with label c between p and s: left into the window of p and c, right into that of c and s;
 -- all places examined but one raise the larger of P and S
 pub data Goes (p : Neighbour) (x c : Label) (s : Neighbour) (P S : ℕ) : Comparison → Step → Type 0 where
   goes-left : (i P' S' examined : ℕ) → Sought p x (held c) P' S' → examined + max P S ≤ suc (max P' S')
       → Goes p x c s P S (smaller i) (go-left P' S' examined)
-  goes-stop : (i examined : ℕ) → examined + max P S ≤ suc (suc (length x))
-      → Goes p x c s P S (same i) (stop examined)
+  goes-stop : (i examined : ℕ) → examined + max P S ≤ suc i → Goes p x c s P S (same i) (stop examined)
   goes-right : (i P' S' examined : ℕ) → Sought (held c) x s P' S' → examined + max P S ≤ suc (max P' S')
       → Goes p x c s P S (larger i) (go-right P' S' examined)
 
@@ -56,7 +53,7 @@ tied-view d P S = go (eqb P d) (ltb d S) refl refl
 module _ {p s : Neighbour} {x c : Label} {P S : ℕ} (sought : Sought p x s P S) where
   -- a step that fits goes into a window that has x
   goes-of-fits : {r : Comparison} {step : Step} → Finds x c r
-      → Fits (placeBelow p x) (placeAbove x s) P S (suc (length x)) r step → Goes p x c s P S r step
+      → Fits (placeBelow p x) (placeAbove x s) P S r step → Goes p x c s P S r step
   goes-of-fits (is-smaller found) (fits-left i P' S' examined told few) =
       let low = below-of-smaller found in
       goes-left i P' S' examined
@@ -69,7 +66,7 @@ module _ {p s : Neighbour} {x c : Label} {P S : ℕ} (sought : Sought p x s P S)
 
   module _ (c-above : Before p (held c)) (c-below : Before (held c) s) where
     -- how the difference places of x and c lie
-    lies : Lies (placeBelow p x) (placeAbove x s) (placeBelow p c) (placeAbove c s) (suc (length x)) (compareLabels x c)
+    lies : Lies (placeBelow p x) (placeAbove x s) (placeBelow p c) (placeAbove c s) (compareLabels x c)
     lies = lies-of-finds c-above c-below (sought .above) (sought .below) (compares-by-places x c)
 
     -- where the predecessor's difference place is at least as large
@@ -80,24 +77,21 @@ module _ {p s : Neighbour} {x c : Label} {P S : ℕ} (sought : Sought p x s P S)
       -- at a tie the sought label is larger, by a difference at P
       pub larger-of-tie : P ≡ d → d < S → compareLabels x c ≡ larger P
       larger-of-tie equal above =
-          larger-at-tie _ _ d (placeAbove c s) P S _ (sought .told)
-          (place-below-within p x) (place-above-within x s) (omega arith) lies equal above
+          larger-at-tie _ _ d (placeAbove c s) P S (sought .told) (omega arith) lies equal above
 
       -- the step by P
       fits-by-predecessor : {b : Bool} → Tied d P S b
-          → Fits (placeBelow p x) (placeAbove x s) P S (suc (length x)) (compareLabels x c)
+          → Fits (placeBelow p x) (placeAbove x s) P S (compareLabels x c)
           (cond b (go-right P S 0) (linesAt x c 0 d P S))
       fits-by-predecessor (tied equal above) =
-          fits-at-tie _ _ d (placeAbove c s) P S _ (sought .told)
-          (place-below-within p x) (place-above-within x s) (omega arith) lies equal above
+          fits-at-tie _ _ d (placeAbove c s) P S (sought .told) (omega arith) lies equal above
       fits-by-predecessor not-tied =
-          fits-on-predecessor-side _ _ d (placeAbove c s) P S _ (sought .told)
-          (place-below-within p x) (place-above-within x s) (compareFrom d x c) (omega arith) lies
+          fits-on-predecessor-side _ _ d (placeAbove c s) P S (sought .told) (compareFrom d x c) (omega arith) lies
           (ordered P d) (compare-late d x c (omega arith))
 
     -- the step on either side, by which of the node's difference places is the larger
     fits-by-side : {b : Bool} → Leb (difference (held c) s) (difference p (held c)) b
-        → Fits (placeBelow p x) (placeAbove x s) P S (suc (length x)) (compareLabels x c)
+        → Fits (placeBelow p x) (placeAbove x s) P S (compareLabels x c)
         (stepAt x c (cond b 0 1) (placeWithin p c s) P S)
     fits-by-side (le-yes tie) =
         let place : placeWithin p c s ≡ placeBelow p c = omega arith in
@@ -105,8 +99,8 @@ module _ {p s : Neighbour} {x c : Label} {P S : ℕ} (sought : Sought p x s P S)
     fits-by-side (le-no more) =
         let place : placeWithin p c s ≡ placeAbove c s = omega arith in
         rw place
-        (fits-on-successor-side _ _ (placeBelow p c) (placeAbove c s) P S _ (sought .told)
-        (place-below-within p x) (place-above-within x s) (compareFrom (placeAbove c s) x c) (omega arith) lies
+        (fits-on-successor-side _ _ (placeBelow p c) (placeAbove c s) P S (sought .told)
+        (compareFrom (placeAbove c s) x c) (omega arith) lies
         (ordered S (placeAbove c s)) (compare-late (placeAbove c s) x c (omega arith)))
 
     -- the step at a node goes as the full comparison does

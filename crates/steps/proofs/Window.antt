@@ -2,7 +2,6 @@
 -- `placeBelow`, `placeAbove`: the difference places of a label with its window, at least 1.
 -- `Sought`: a search with the numbers P and S has the label x in the window of p and s.
 -- `sought-first`: so it is at the root.
--- `place-below-within`, `place-above-within`, `numbers-within`: no place is beyond the one after the label's end.
 -- `lies-of-finds`: how the difference places of two labels in one window lie.
 use mathlib.Core.Path.{_≡_, ap}
 use Prim.Native.Nat.{ℕ, suc, _≤_, min, max}
@@ -32,18 +31,9 @@ pub record Sought (p : Neighbour) (x : Label) (s : Neighbour) (P S : ℕ) : Type
 pub sought-first : (x : Label) → Sought none-below x none-above 1 1
 sought-first x = record { above = none-below-held x; below = held-none-above x; told = omega arith }
 
--- the difference place with the predecessor is at most one more than the label's length
-pub place-below-within : (p : Neighbour) (x : Label) → placeBelow p x ≤ suc (length x)
-place-below-within p x = omega (arith, difference-second p x)
-
--- so is that with the successor
-pub place-above-within : (x : Label) (s : Neighbour) → placeAbove x s ≤ suc (length x)
-place-above-within x s = omega (arith, difference-first x s)
-
--- so are P and S
-pub numbers-within : {p s : Neighbour} {x : Label} {P S : ℕ} → Sought p x s P S → max P S ≤ suc (length x)
-numbers-within {p} {s} {x} sought =
-    omega (arith, sought .told .p-within, sought .told .s-within, place-below-within p x, place-above-within x s)
+-- no difference place is beyond the place after the label's end
+within-end : (p : Neighbour) (x : Label) (s : Neighbour) → max (placeBelow p x) (placeAbove x s) ≤ suc (length x)
+within-end p x s = omega (arith, difference-second p x, difference-first x s)
 
 -- the smaller of two places, taken as at least 1
 least-of-raised : (a b i : ℕ) → 1 ≤ i → a ≡ min b i → max 1 a ≡ min (max 1 b) i
@@ -67,11 +57,11 @@ module _ {a b : Label} {i : ℕ} (smaller : SmallerAt a b i) where
 -- the difference places of x and c with their window lie as the comparison of x and c says
 pub lies-of-finds : {p s : Neighbour} {x c : Label} {r : Comparison}
     → Before p (held c) → Before (held c) s → Before p (held x) → Before (held x) s → Finds x c r
-    → Lies (placeBelow p x) (placeAbove x s) (placeBelow p c) (placeAbove c s) (suc (length x)) r
+    → Lies (placeBelow p x) (placeAbove x s) (placeBelow p c) (placeAbove c s) r
 lies-of-finds c-above c-below above below (is-smaller {i = i} found) =
     lies-smaller i (found .place) (place-below-upper found above c-above) (place-above-lower found below c-below)
-lies-of-finds c-above c-below above below (is-same {i = i} alike end) =
+lies-of-finds {p} {s} {x} c-above c-below above below (is-same {i = i} alike end) =
     lies-same i (ap (max 1) (place-unique above (below-alike c-above alike)))
-    (ap (max 1) (place-unique below (alike-below c-below alike))) end
+    (ap (max 1) (place-unique below (alike-below c-below alike))) (omega (arith, within-end p x s))
 lies-of-finds c-above c-below above below (is-larger {i = i} found) =
     lies-larger i (found .place) (place-below-upper found c-above above) (place-above-lower found c-below below)

@@ -10,7 +10,8 @@ use Rattle.types.specs.declared.Limits.{Limits}
 use Rattle.types.specs.Sizes.{tableLength, storeLength}
 use Rattle.types.specs.Answers.{Answer, found, absent, updated, listed, done, refused}
 use Rattle.labels.specs.Labels.{Label, Alike}
-use Rattle.trees.specs.Trees.{Entry, Tree, NodeOf, size}
+use Rattle.labels.specs.Shared.{mostShared}
+use Rattle.trees.specs.Trees.{Entry, Tree, NodeOf, labels, size}
 use Rattle.trees.specs.Heights.{least}
 use Rattle.trees.specs.Searches.{fullSearch}
 use Rattle.trees.specs.Plain as plain
@@ -155,6 +156,11 @@ pub record SearchAgrees (limits : Limits) (x : Label) (m : Memory) (t : Tree) : 
   -- v visits only while at least as many labels are held as the smallest height-balanced tree of height v has
   pub few : least (length (fullSearch x t .visited)) ≤ size t
   pub shallow : length (fullSearch x t .visited) ≤ limits .depth
+  -- "places are at most visits plus the most leading bytes the sought label shares with any one held label" (M-113 of
+  -- document 02)
+  pub shared :
+      placesOf (searchSteps limits (m .table) (m .store) x)
+      ≤ length (fullSearch x t .visited) + mostShared x (labels t)
   -- places at most the sought label's length plus the visits
   pub short : placesOf (searchSteps limits (m .table) (m .store) x) ≤ length x + length (fullSearch x t .visited)
 
