@@ -28,7 +28,9 @@ enum { STRAP_SLOTS = 512, STRAP_WIDTH = 64, STRAP_WORDS = 4100, STRAP_BYTES = 32
 enum { STRAP_PAGE_SLOTS = 32, STRAP_PAGE_WIDTH = 20, STRAP_PAGE_WORDS = 260, STRAP_PAGE_BYTES = 640 };
 
 /* An answer is one number, from its lowest bits: 4 of kind, 12 of places, 16 of visits, then 16 and 16, `one` and
- * `other` below. What a kind does not name is 0. */
+ * `other` below. What a kind does not name is 0. Visits are the nodes that the call's search visited, places the places
+ * of labels that it examined: on sound memory at most the visits and the most leading bytes, A to Z as a to z, that the
+ * label sought shares with any one held. */
 enum strap_kind {
     STRAP_REFUSED = 0, /* one: the refusal's number */
     STRAP_FOUND = 1,   /* places, visits; one: the label's slot; other: its value */

@@ -18,20 +18,53 @@ pub fn on_map(map: &mut Lists, call: usize, label: &[u8], value: usize) -> Said 
     }
 }
 
-// The fault of an answer: beside the second writing's, the map's, and both bounds. A call refused by the map made a
-// search too.
-pub fn fault(found: &Image, call: usize, label: &[u8], said: usize, plain: Said) -> usize {
+// The fault of an answer: beside the second writing's, the map's, and the bounds, with the most bytes that the label
+// shares with one held before the call.
+pub fn fault(
+    found: &Image,
+    call: usize,
+    label: &[u8],
+    shared: usize,
+    said: usize,
+    plain: Said,
+) -> usize {
     if said != outcomes::on_sound(found, call, label) {
         return faults::ANSWER;
     }
     if said != as_map(call, said, plain) {
         return faults::MAP;
     }
-    let searched = outcomes::on_sound(found, SEARCH, label);
-    if bounds::hold(found, label.len(), searched) {
-        return 0;
+    bounds_fault(found, label, shared, said)
+}
+
+// The fault of counts beside the bounds: those of the answer, and those of the search steps, since a refused call made
+// a search too.
+pub fn bounds_fault(found: &Image, label: &[u8], shared: usize, said: usize) -> usize {
+    let fault = counts_fault(found, label.len(), shared, said);
+    if fault > 0 {
+        return fault;
     }
-    faults::BOUNDS
+    counts_fault(found, label.len(), shared, searched(found, label))
+}
+
+// What the search steps say.
+fn searched(found: &Image, label: &[u8]) -> usize {
+    outcomes::on_sound(found, SEARCH, label)
+}
+
+fn counts_fault(found: &Image, len: usize, shared: usize, answer: usize) -> usize {
+    if !bounds::hold(found, len, answer) {
+        return faults::BOUNDS;
+    }
+    if !bounds::shared_holds(shared, answer) {
+        return faults::SHARED;
+    }
+    0
+}
+
+// Whether the search of a call reached the bound by shared bytes.
+pub fn reached(found: &Image, label: &[u8], shared: usize) -> bool {
+    bounds::shared_reached(shared, searched(found, label))
 }
 
 // What the map said, with the counts of an answer.

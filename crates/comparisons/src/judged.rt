@@ -1,5 +1,5 @@
 // A call on any memory, compared with the second writing; where the memory is sound, a search also with the map of the
-// labels held.
+// labels held, and an update's counts with the bytes shared with these.
 use crate::answers;
 use crate::maps;
 use audits::lengths;
@@ -9,11 +9,12 @@ use images::memory::Image;
 use images::packing;
 use oracles::outcomes;
 use reports::faults;
+use samples::calls::DELETE;
 use samples::calls::INSERT;
 use samples::calls::SEARCH;
 use std::num::wrapping_add_usize;
 
-// The fault of a call on a label, with a value or a slot: its answer, or what it left.
+// The fault of a call on a label, with a value or a slot: its answer, what it left, or its counts.
 pub fn fault(
     found: &Image,
     left: &Image,
@@ -27,20 +28,22 @@ pub fn fault(
         return faults::ANSWER;
     }
     if packing::kind(said) == packing::UPDATED {
-        return update_fault(found, left, call, label, inserted_as(said, number));
-    }
-    if !memory::same(&judged, left) {
+        let fault = update_fault(found, left, call, label, inserted_as(said, number));
+        if fault > 0 {
+            return fault;
+        }
+    } else if !memory::same(&judged, left) {
         return faults::MEMORY;
     }
-    if call == SEARCH {
-        return search_fault(found, label, said);
+    match call {
+        SEARCH | INSERT | DELETE => labelled_fault(found, call, label, said),
+        _ => 0,
     }
-    0
 }
 
-// The fault of a search on sound memory of the right lengths, beside the map of the labels held; on any other there is
-// no map.
-fn search_fault(image: &Image, label: &[u8], said: usize) -> usize {
+// The fault of a search or an update on sound memory of the right lengths, beside the map of the labels held: of a
+// search's answer, of an update's counts; on any other there is no map.
+fn labelled_fault(image: &Image, call: usize, label: &[u8], said: usize) -> usize {
     if lengths::lent_refusal(image) > 0 {
         return 0;
     }
@@ -48,7 +51,12 @@ fn search_fault(image: &Image, label: &[u8], said: usize) -> usize {
         return 0;
     }
     let map = maps::of_table(image);
-    answers::fault(image, SEARCH, label, said, plainmap::search(&map, label))
+    let shared = plainmap::most_shared(&map, label);
+    if call == SEARCH {
+        let plain = plainmap::search(&map, label);
+        return answers::fault(image, SEARCH, label, shared, said, plain);
+    }
+    answers::bounds_fault(image, label, shared, said)
 }
 
 // A slot and a value, in one number.

@@ -1,5 +1,5 @@
 -- Limits on the places of a search: M-113 of document 02, and the one of document 01.
-use mathlib.Core.List.{List, [], _∷_, map}
+use mathlib.Core.List.{List, [], _∷_}
 use mathlib.Core.Path.{_≡_}
 use Prim.Native.Nat.{ℕ, _+_, _≤_}
 use lib.ListN.{length}
@@ -12,12 +12,8 @@ use Rattle.trees.specs.Plain.{Call, insert, soughtBy}
 use Rattle.tables.specs.Written.{Memory}
 use Rattle.tables.specs.Steps.{Walk, broken, searchSteps}
 use Rattle.tables.specs.Outcomes.{visitsOf, placesOf}
-use Rattle.tables.specs.Claims.{Sound, mapIn, LabelFits, callOutcome}
+use Rattle.tables.specs.Claims.{Sound, labelsIn, LabelFits, callOutcome}
 use Rattle.cases.specs.Cases.{a, d, roster, afterCalls, laidOut}
-
--- the labels held
-abbrev pub labelsIn : Limits → Memory → List Label
-labelsIn limits m = map (λ p. p .label) (mapIn limits m)
 
 -- a limit that reads labels alone: how many bytes it allows for a sought label, with these held
 abbrev pub ByteLimit : Type 0

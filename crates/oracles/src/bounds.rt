@@ -1,4 +1,5 @@
-// The two bounds on a search's counts.
+// The three bounds on a search's counts: visits by the smallest tree, places by the label's length, places by the most
+// leading bytes that the label shares with any one label held, a number that the map gives.
 use images::memory;
 use images::memory::Image;
 use images::packing;
@@ -26,4 +27,22 @@ pub fn hold(image: &Image, len: usize, answer: usize) -> bool {
         return false;
     }
     packing::places(answer) <= wrapping_add_usize(len, visits)
+}
+
+// Whether a search may examine as many places as its answer says, by the bytes shared.
+pub fn shared_holds(shared: usize, answer: usize) -> bool {
+    packing::places(answer) <= most_places(shared, answer)
+}
+
+// Whether a search that visited a node examined as many places as the bytes shared allow.
+pub fn shared_reached(shared: usize, answer: usize) -> bool {
+    if packing::visits(answer) == 0 {
+        return false;
+    }
+    packing::places(answer) == most_places(shared, answer)
+}
+
+// The bytes shared, and one place for each node visited.
+fn most_places(shared: usize, answer: usize) -> usize {
+    wrapping_add_usize(shared, packing::visits(answer))
 }

@@ -1,4 +1,5 @@
-// The labels of the map, and their order by the numbers at their places, in which A to Z count as a to z.
+// The labels of the map, their order by the numbers at their places, in which A to Z count as a to z, and the leading
+// bytes that they share.
 use crate::BYTES;
 use crate::COUNTS;
 use crate::LENGTHS;
@@ -55,6 +56,33 @@ pub fn difference(map: &Lists, slot: usize, label: &[u8]) -> usize {
         }
     }
     0
+}
+
+// How many leading bytes a slot's label and another share, letters in either case; no end is counted.
+pub fn shared(map: &Lists, slot: usize, label: &[u8]) -> usize {
+    for j in 0..label.len() {
+        if j >= lists::get(map, LENGTHS, slot) {
+            return j;
+        }
+        let byte = lists::get(map, wrapping_add_usize(BYTES, j), slot);
+        if !alike(byte, wide(label[j])) {
+            return j;
+        }
+    }
+    label.len()
+}
+
+// Whether two bytes have one number, told without it: the same byte, or the same letter in either case.
+fn alike(one: usize, other: usize) -> bool {
+    if one == other {
+        return true;
+    }
+    is_capital_of(one, other) | is_capital_of(other, one)
+}
+
+// Whether a byte is the capital letter of a small one.
+fn is_capital_of(byte: usize, small: usize) -> bool {
+    (byte >= 65) & (byte <= 90) & (small == wrapping_add_usize(byte, 32))
 }
 
 // Whether a slot's label begins with these bytes, in this spelling.

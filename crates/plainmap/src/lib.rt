@@ -168,6 +168,19 @@ fn spot_of(map: &Lists, label: &[u8]) -> Spot {
     }
 }
 
+// The most leading bytes that a label shares with any one label held; 0 with none held.
+pub fn most_shared(map: &Lists, label: &[u8]) -> usize {
+    let n = held(map);
+    let mut most = 0usize;
+    for i in 0..n {
+        let shared = labels::shared(map, slot_at(map, i), label);
+        if shared > most {
+            most = shared;
+        }
+    }
+    most
+}
+
 pub fn search(map: &Lists, label: &[u8]) -> Said {
     let why = length_refusal(map, label.len());
     if why > 0 {

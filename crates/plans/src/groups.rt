@@ -18,8 +18,8 @@ use std::num::wrapping_sub_usize;
 pub const GROUPS: usize = 20;
 
 // The ways of a group: case 11 of the paper, by the index's sizes; all labels of a shape inserted, searched and
-// deleted, in order, in reverse or in steps of 333; calls drawn from a generator; some labels inserted, then twelve
-// deleted; a full table of names, each inserted again in another spelling.
+// deleted, in order, in reverse or in steps of 333, and one inserted alone; calls drawn from a generator; some labels
+// inserted, then twelve deleted; a full table of names, each inserted again in another spelling.
 pub const CASE: usize = 0;
 
 pub const IN_ORDER: usize = 1;
@@ -99,7 +99,7 @@ pub fn calls(plan: Plan) -> usize {
         DRAWN => numbers::least(8000, 40 * labels),
         PREPARED => labels + 12,
         RESPELLED => 2 * labels + 8,
-        _ => 3 * labels,
+        _ => 3 * labels + 4,
     }
 }
 
@@ -136,13 +136,23 @@ fn judged(call: usize, shape: usize, label: usize) -> Planned {
 }
 
 fn swept(plan: Plan, i: usize) -> Planned {
-    let call = match numbers::quotient(i, plan.labels) {
-        0 => INSERT,
-        1 => SEARCH,
-        _ => DELETE,
-    };
-    let label = swept_label(plan, numbers::remainder(i, plan.labels));
-    judged(call, plan.shape, label)
+    let k = numbers::remainder(i, plan.labels);
+    let label = swept_label(plan, k);
+    match numbers::quotient(i, plan.labels) {
+        0 => judged(INSERT, plan.shape, label),
+        1 => judged(SEARCH, plan.shape, label),
+        2 => judged(DELETE, plan.shape, label),
+        _ => emptied(plan.shape, k),
+    }
+}
+
+// On a table filled and emptied: a search; then one label is inserted alone, and it and another are searched.
+fn emptied(shape: usize, i: usize) -> Planned {
+    match i {
+        1 => judged(INSERT, shape, 0),
+        3 => judged(SEARCH, shape, 1),
+        _ => judged(SEARCH, shape, 0),
+    }
 }
 
 // The label that comes after `i` others.

@@ -3,10 +3,11 @@ pub mod faults;
 pub mod tallies;
 pub mod texts;
 
-// What came of a call: the fault, that is what differs first, 0 for nothing; and the kind of the index's answer, with
-// the number where it is 0, a refusal.
+// What came of a call: the fault, that is what differs first, 0 for nothing; the kind of the index's answer, with the
+// number where it is 0, a refusal; and whether its search reached the bound by shared bytes.
 pub struct Round {
     pub fault: usize,
     pub kind: usize,
     pub refusal: usize,
+    pub reached: bool,
 }

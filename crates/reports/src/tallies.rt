@@ -5,11 +5,11 @@ use crate::texts::Line;
 use samples::calls::INSERT;
 use std::num::wrapping_add_usize;
 
-pub type Tally = [usize; 10];
+pub type Tally = [usize; 11];
 
 // The counts of a tally: the calls; of these the searches that found the label or did not, the updates, and those
 // refused; the most labels held; the calls that did not agree; the changes of the memory, and those of them that left
-// the table sound.
+// the table sound; the calls whose search reached the bound by shared bytes.
 pub const CALLS: usize = 0;
 
 pub const FOUND: usize = 1;
@@ -30,12 +30,14 @@ pub const CHANGES: usize = 8;
 
 pub const SOUND: usize = 9;
 
+pub const REACHED: usize = 10;
+
 pub fn none() -> Tally {
-    [0usize; 10]
+    [0usize; 11]
 }
 
 pub fn get(tally: Tally, k: usize) -> usize {
-    if k < 10 {
+    if k < 11 {
         return tally[k];
     }
     0
@@ -43,7 +45,7 @@ pub fn get(tally: Tally, k: usize) -> usize {
 
 fn set(tally: Tally, k: usize, x: usize) -> Tally {
     let mut t = tally;
-    if k < 10 {
+    if k < 11 {
         t[k] = x;
     }
     t
@@ -73,7 +75,8 @@ pub fn count(tally: Tally, call: usize, round: Round, held: usize) -> Tally {
     let called = one_more(tally, CALLS);
     let ended = one_more(called, end_of(call, round.kind));
     let most = at_least(ended, MOST, held);
-    one_more_if(most, MISMATCHES, round.fault > 0)
+    let reached = one_more_if(most, REACHED, round.reached);
+    one_more_if(reached, MISMATCHES, round.fault > 0)
 }
 
 // Which count a call's end goes to, by the kind of its answer.
@@ -100,7 +103,7 @@ pub fn print_sequence(page: bool, shape: usize, way: usize, tally: Tally) {
         shape,
         b", case 11|, in order|, reversed|, stepped|, drawn|, prepared|, respelled",
         way,
-        b": calls 0, found 1, absent 2, inserted 3, deleted 4, refused 5, most held 6, mismatches 7",
+        b": calls 0, found 1, absent 2, inserted 3, deleted 4, refused 5, most held 6, at the bound A, mismatches 7",
         tally,
     );
 }
@@ -172,7 +175,7 @@ fn put_fault(line: &mut Line, at: usize, fault: usize) -> usize {
     texts::put_name(
         line,
         next,
-        b"|answer|answer beside the map|bounds|memory left|check|soundness|listing|views|head|refusal",
+        b"|answer|answer beside the map|bounds|memory left|check|soundness|listing|views|head|refusal|shared bytes",
         fault,
     )
 }

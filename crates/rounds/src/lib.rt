@@ -14,9 +14,10 @@ use reports::Round;
 // Makes a search or an update on a sound table and the map, and compares the answer and what is left.
 pub fn made(image: &mut Image, map: &mut Lists, call: usize, label: &[u8], value: usize) -> Round {
     let found = *image;
+    let shared = plainmap::most_shared(map, label);
     let said = calls::make(image, call, label, value);
     let plain = answers::on_map(map, call, label, value);
-    let mut fault = answers::fault(&found, call, label, said, plain);
+    let mut fault = answers::fault(&found, call, label, shared, said, plain);
     if fault == 0 {
         fault = states::fault(&found, image, map, said);
     }
@@ -24,11 +25,12 @@ pub fn made(image: &mut Image, map: &mut Lists, call: usize, label: &[u8], value
         fault: fault,
         kind: packing::kind(said),
         refusal: packing::refusal(said),
+        reached: answers::reached(&found, label, shared),
     }
 }
 
 // Makes any call on any memory, which stays, and compares the answer and what is left with the second writing's; where
-// the memory is sound, a search's answer also with the map's.
+// the memory is sound, a search's answer also with the map's, and an update's counts with the bytes shared.
 pub fn tried(image: &Image, call: usize, label: &[u8], number: usize) -> usize {
     let mut left = *image;
     let said = calls::make(&mut left, call, label, number);

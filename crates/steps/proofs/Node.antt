@@ -25,7 +25,7 @@ use Rattle.steps.proofs.Mirror.{fits-on-successor-side}
 use Rattle.steps.proofs.Window.{placeBelow, placeAbove, Sought, lies-of-finds}
 
 -- a step at a node with label c between p and s: left into the window of p and c, right into that of c and s;
--- all places examined but one raise the larger of P and S
+-- all places examined but one raise the larger of P and S, or would raise it to the place where the comparison ends
 pub data Goes (p : Neighbour) (x c : Label) (s : Neighbour) (P S : ℕ) : Comparison → Step → Type 0 where
   goes-left : (i P' S' examined : ℕ) → Sought p x (held c) P' S' → examined + max P S ≤ suc (max P' S')
       → Goes p x c s P S (smaller i) (go-left P' S' examined)

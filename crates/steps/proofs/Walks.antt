@@ -76,8 +76,8 @@ ended-with-places : {walk : Walk} {search : Search} {places : ℕ} → walk ≡ 
     → walk ≡ ended search (placesOf walk)
 ended-with-places ends = cc (ap placesOf ends)
 
--- the labels of a node and its subtrees share less than the last place with x: so do those of each subtree, and the
--- difference place with the node's is up to the last
+-- x shares fewer bytes than the number of the last place with each label of both subtrees, and its difference place with
+-- the node's label is up to the last; so it is where it shares fewer with all of them
 record Near (x : Label) (last : ℕ) (l : Tree) (e : Entry) (r : Tree) : Type 0 where
   on-left : mostShared x (labels l) < last
   here : differencePlace x (e .label) ≤ last

@@ -57,6 +57,10 @@ pub record SoundIsWritten (limits : Limits) : Type 0 where
 abbrev pub mapIn : Limits → Memory → List Pair
 mapIn limits m = mapOf (stateOf limits (m .table) (m .store) .tree)
 
+-- the labels of its pairs
+abbrev pub labelsIn : Limits → Memory → List Label
+labelsIn limits m = map (λ p. p .label) (mapIn limits m)
+
 -- the label of a slot, as the view shows it
 abbrev pub labelIn : Limits → Memory → ℕ → Label
 labelIn limits m k = labelAt limits (m .store) k (rowAt (m .table) k .len)
@@ -129,8 +133,8 @@ pub record ListsAscending (limits : Limits) (m : Memory) (list : List ℕ) : Typ
   pub count : listingOutcome limits (m .table) (m .store) list .answer ≡ listed (length (mapIn limits m))
   pub labels :
       map (labelIn limits m) (take (length (mapIn limits m)) (listingOutcome limits (m .table) (m .store) list .list))
-      ≡ map (λ p. p .label) (mapIn limits m)
-  pub ascending : ascends (map (λ p. p .label) (mapIn limits m)) ≡ true
+      ≡ labelsIn limits m
+  pub ascending : ascends (labelsIn limits m) ≡ true
   pub later :
       drop (length (mapIn limits m)) (listingOutcome limits (m .table) (m .store) list .list)
       ≡ drop (length (mapIn limits m)) list
