@@ -66,11 +66,11 @@ static void print_mean(int number, const char *what, unsigned sum)
     printf("%d\t%s\t%f\n", number, what, (double)sum / QUERIES);
 }
 
-/* A workload where no search finds a label is one of strangers. */
+/* A workload where no search finds a label is of the series absent too. */
 static void print_sums(int number, const struct sums *sums)
 {
     if (sums->absent == QUERIES)
-        printf("%d\tseries\tstrangers\n", number);
+        printf("%d\tseries\tabsent\n", number);
     print_mean(number, "visits", sums->visits);
     print_mean(number, "places, index", sums->places);
     print_mean(number, "places before", sums->before);

@@ -89,7 +89,7 @@ $2 == "series" { list[$3, ++size[$3]] = $1; next }
 END {
     if (size["nine"] != 9 || size["page"] != 2 || size["tables"] != 4 || size["page tables"] != 1)
         stop("a workload is missing")
-    if (size["spelling"] != 2 || size["held"] != 10 || size["common"] != 15 || size["strangers"] != 6)
+    if (size["spelling"] != 2 || size["held"] != 10 || size["common"] != 15 || size["absent"] != 6)
         stop("a workload is missing")
     derive_searches("nine")
     derive_searches("page")
@@ -99,8 +99,8 @@ END {
     derive_named("nine", 1)
     derive_named("page", 1)
     derive_named("spelling", 0)
-    for (i = 1; i <= size["strangers"]; i++)
-        compare(list["strangers", i], "places, limit", "places, limit by length")
+    for (i = 1; i <= size["absent"]; i++)
+        compare(list["absent", i], "places, limit", "places, limit by length")
     for (i = 1; i <= size["tables"]; i++) {
         w = list["tables", i]
         factor = get("bar", get(w, "table") ~ /sharing/ ? "alike" : "other")

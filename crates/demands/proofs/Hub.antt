@@ -68,8 +68,8 @@ hub-tie-saves = tie-saves hub hub-depth
 pub hub-true-neighbours : TrueNeighbours hub
 hub-true-neighbours = true-neighbours hub hub-depth
 
--- On a sound table of the hub, places are at most visits plus the most leading bytes shared with one label held; the limit
--- by the sought label's length follows; and with one label held no limit that reads labels alone is smaller.
+-- On a sound table of the hub, places are at most visits plus the most leading bytes shared with any one label held.
+-- The limit by the sought label's length follows. With one label held no limit that reads labels alone is smaller.
 pub hub-shared-limit : SharedLimit hub
 hub-shared-limit = shared-limit hub hub-depth
 

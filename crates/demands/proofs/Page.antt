@@ -68,8 +68,8 @@ page-tie-saves = tie-saves page page-depth
 pub page-true-neighbours : TrueNeighbours page
 page-true-neighbours = true-neighbours page page-depth
 
--- On a sound table of the page, places are at most visits plus the most leading bytes shared with one label held; the limit
--- by the sought label's length follows; and with one label held no limit that reads labels alone is smaller.
+-- On a sound table of the page, places are at most visits plus the most leading bytes shared with any one label held.
+-- The limit by the sought label's length follows. With one label held no limit that reads labels alone is smaller.
 pub page-shared-limit : SharedLimit page
 page-shared-limit = shared-limit page page-depth
 

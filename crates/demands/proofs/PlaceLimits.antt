@@ -53,7 +53,8 @@ module _ (limits : Limits) (deepest : Deepest (limits .slots) (limits .depth)) w
   module _ (s : State) (valid : Valid (limits .slots) (limits .width) s) where
     -- A valid state written out holds the labels of its tree.
     pub labels-of-written : labelsIn limits (written limits s) ≡ labels (s .tree)
-    labels-of-written = ap (map (λ (p : Pair). p .label)) (map-of-written limits deepest s valid) ∙ keys-of-map (s .tree)
+    labels-of-written =
+        ap (map (λ (p : Pair). p .label)) (map-of-written limits deepest s valid) ∙ keys-of-map (s .tree)
 
     module _ (x : Label) where
       abbrev steps : Walk

@@ -50,7 +50,7 @@ visited-agrees : {last P S P' S' : ℕ} {walk : Walk} {search : Search} (side : 
 visited-agrees side e examined raised rest =
     record { places = examined + rest .places; ends = ap (visitThen side e examined) (rest .ends); few = omega arith }
 
--- a step that goes as a comparison does, which ends at the last place at the latest, leads to a walk that agrees, if the
+-- a step that goes as a comparison does, which ends at the last place or before, leads to a walk that agrees, if the
 -- walks into the sons agree
 walk-agrees : {p s : Neighbour} {x : Label} {last P S : ℕ} {r : Comparison} {step : Step}
     (e : Entry) (toLeft toRight : ℕ → ℕ → Walk) (onLeft onRight : Search)
@@ -76,8 +76,8 @@ ended-with-places : {walk : Walk} {search : Search} {places : ℕ} → walk ≡ 
     → walk ≡ ended search (placesOf walk)
 ended-with-places ends = cc (ap placesOf ends)
 
--- x shares fewer bytes than the number of the last place with each label of both subtrees, and its difference place with
--- the node's label is up to the last; so it is where it shares fewer with all of them
+-- x shares fewer bytes than the number of the last place with each label of both subtrees, and its difference place
+-- with the node's label is up to the last; so it is where x shares fewer with all of them
 record Near (x : Label) (last : ℕ) (l : Tree) (e : Entry) (r : Tree) : Type 0 where
   on-left : mostShared x (labels l) < last
   here : differencePlace x (e .label) ≤ last
