@@ -41,21 +41,23 @@ module _ (w : Spot) (slot : ℕ) (right : Bool) (p s examined : ℕ) where
   pub onward-left : right ≡ false → onwardWith (w .below) slot ≡ stepOnward w slot right p s examined
   onward-left is = rw is
 
--- the step at w and the node in a slot, after a comparison that started at place d
+-- the step at w and the node in a slot, after a comparison that started at place d; the places that it examined
+-- are told by their number
 module _ (w : Spot) (slot d : ℕ) (c : Compared) (r : code.Step) where
   abbrev decision : code.Step
   decision = stepFrom w slot (compareStep (comparisonOf c) d (w .p) (w .s))
 
-  pub decided-smaller : c .order ≡ Smaller → r ≡ stepOnward w slot false (w .p) (c .place) (c .place + 1 - d)
-      → r ≡ decision
-  decided-smaller o is = is ∙ ap (stepFrom w slot) (decide-smaller (w .p) (w .s) d c o)
+  pub decided-smaller : (examined : ℕ) → c .order ≡ Smaller → r ≡ stepOnward w slot false (w .p) (c .place) examined
+      → examined ≡ c .place + 1 - d → r ≡ decision
+  decided-smaller examined o is many = is ∙ rw many (ap (stepFrom w slot) (decide-smaller (w .p) (w .s) d c o))
 
-  pub decided-same : c .order ≡ Same → r ≡ stepFrom w slot (stop (c .place + 1 - d)) → r ≡ decision
-  decided-same o is = is ∙ ap (stepFrom w slot) (decide-same (w .p) (w .s) d c o)
-
-  pub decided-larger : c .order ≡ Larger → r ≡ stepOnward w slot true (c .place) (w .s) (c .place + 1 - d)
+  pub decided-same : c .order ≡ Same → r ≡ stepFrom w slot (stop (r .examined)) → r .examined ≡ c .place + 1 - d
       → r ≡ decision
-  decided-larger o is = is ∙ ap (stepFrom w slot) (decide-larger (w .p) (w .s) d c o)
+  decided-same o is many = is ∙ rw many (ap (stepFrom w slot) (decide-same (w .p) (w .s) d c o))
+
+  pub decided-larger : (examined : ℕ) → c .order ≡ Larger → r ≡ stepOnward w slot true (c .place) (w .s) examined
+      → examined ≡ c .place + 1 - d → r ≡ decision
+  decided-larger examined o is many = is ∙ rw many (ap (stepFrom w slot) (decide-larger (w .p) (w .s) d c o))
 
 -- the step at the node where the walk stands
 module _ (limits : Limits) (store : List ℕ) (x : Label) (w : Spot) (row : Row) (t : Turn)

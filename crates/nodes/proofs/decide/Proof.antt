@@ -1,4 +1,5 @@
--- `nodes::decide` meets its contract: each order gives its step.
+-- `nodes::decide` meets its contract: each order gives its step; how many places it examined is arithmetic.
+use native.Mathlib.Omega.{arith}
 use borrow.Author.Needs.{needs}
 use Rattle.nodes.proofs.Yields.{decided-smaller, decided-same, decided-larger}
 use Rattle.nodes.proofs.decide.Statement.{statement}
@@ -26,13 +27,19 @@ onward-requires-2 : tie.Need-onward-requires-2
 onward-requires-2 c κs = search needs
 
 returns : tie.Need-returns
-returns c = (search decided-smaller, search needs)
+returns c =
+    let compared = c .before .before .before .before .args .c in
+    (decided-smaller _ _ _ compared _ _ (search needs) (c .onward .ensures .0) (omega arith), search needs)
 
 returns-2 : tie.Need-returns-2
-returns-2 c = (search decided-same, search needs)
+returns-2 c =
+    let compared = c .before .before .before .args .c in
+    (decided-same _ _ _ compared _ (search needs) (search needs) (omega arith), search needs)
 
 returns-3 : tie.Need-returns-3
-returns-3 c = (search decided-larger, search needs)
+returns-3 c =
+    let compared = c .before .before .before .before .args .c in
+    (decided-larger _ _ _ compared _ _ (search needs) (c .onward2 .ensures .0) (omega arith), search needs)
 
 pub decide-spec : {M : Type 1} → statement M
 decide-spec =
