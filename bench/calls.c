@@ -1,5 +1,5 @@
-/* Makes each of the eight calls through include/strap_index.h, each refusal too, and tests what they answer: those of
- * the hub's index, and built with PAGE those of the pairing page's. */
+/* Makes each of the calls through include/strap_index.h, each refusal too, and tests what they answer: those of the
+ * hub's index, and built with PAGE those of the pairing page's. */
 #include "calls.h"
 #include <stdio.h>
 #include <string.h>
@@ -182,6 +182,16 @@ static void spellings(void)
         says("the order of eight", 0, STRAP_LISTED, 8, 0);
 }
 
+/* The roster on a fresh table. */
+static void roster(void)
+{
+    layout();
+    insert("b", 10);
+    insert("a", 20);
+    insert("dd", 30);
+    insert("c", 40);
+}
+
 /* The slots next to an absent label: in an empty table, with one label, in the roster; with the place of "b" changed,
  * so that a walk goes right there and compares nothing; none where a walk is broken in the end. */
 static void neighbours(void)
@@ -190,11 +200,7 @@ static void neighbours(void)
     counts("search a in nothing", lies_between("a", 0, 0), 0, 0);
     insert("a", 20);
     counts("search aa", lies_between("aa", 1, 0), 1, 2);
-    layout();
-    insert("b", 10);
-    insert("a", 20);
-    insert("dd", 30);
-    insert("c", 40);
+    roster();
     counts("search DA", lies_between("DA", 4, 3), 3, 3);
     lies_between("AB", 2, 1);
     lies_between("!", 0, 2);
@@ -205,6 +211,72 @@ static void neighbours(void)
     table[4 + 8 * 3] = SLOTS + 1;
     refuses("5, at the fourth node", search("a"), STRAP_BROKEN_WALK);
 }
+
+/* The charges in the slots of "b", "a", "dd" and "c", 1 to 4. */
+static void charges_are(const char *what, unsigned b, unsigned a, unsigned dd, unsigned c)
+{
+    const unsigned charges[] = {b, a, dd, c};
+    for (size_t slot = 1; slot <= 4; slot++)
+        if (strap_charge_in(table, slot) != charges[slot - 1]) {
+            fprintf(stderr, INDEX ": %s: charge %u in slot %zu\n", what, strap_charge_in(table, slot), slot);
+            failed = 1;
+        }
+}
+
+/* Charges in a table of either index: unknown where a label goes in, 0 where one goes out; a table in which a charge is
+ * 0 is sound, one with a number that is no charge is not. */
+static void charges_kept(void)
+{
+    roster();
+    charges_are("after inserts", 255, 255, 255, 255);
+    table[4 + 8 * 3 + 7] = 0;
+    says("check of a charge of 0", check(), STRAP_DONE, 0, 0);
+    says("delete b of two sons", delete("b"), STRAP_UPDATED, 1, 0);
+    charges_are("after a delete", 0, 255, 255, 0);
+    table[4 + 8 * 3 + 7] = 101;
+    refuses("6, a charge of 101", check(), STRAP_NOT_SOUND);
+    table[4 + 8 * 3 + 7] = 100;
+    table[4 + 7] = 100;
+    refuses("6, a charge in a freed slot", check(), STRAP_NOT_SOUND);
+}
+
+#ifndef PAGE
+static uint64_t set_charge(const char *label, uint16_t charge)
+{
+    return strap_set_charge(table, WORDS, store, BYTES, (const uint8_t *)label, strlen(label), charge);
+}
+
+/* Charges set, in any spelling; a node that takes a deleted one's place keeps its own. */
+static void charges_set(void)
+{
+    uint64_t said;
+    roster();
+    says("charge of dd", said = set_charge("DD", 100), STRAP_UPDATED, 3, 0);
+    counts("charge of dd", said, 2, 4);
+    says("charge of c", set_charge("c", 0), STRAP_UPDATED, 4, 0);
+    says("charge of b", set_charge("b", 57), STRAP_UPDATED, 1, 0);
+    says("charge of b anew", set_charge("b", 255), STRAP_UPDATED, 1, 0);
+    charges_are("once set", 255, 255, 100, 0);
+    refuses("3 before 24", set_charge("", 101), STRAP_EMPTY_LABEL);
+    refuses("24, of 101", set_charge("b", 101), STRAP_WRONG_CHARGE);
+    refuses("24 before 8", set_charge("x", 254), STRAP_WRONG_CHARGE);
+    refuses("24, of 65535", set_charge("b", 65535), STRAP_WRONG_CHARGE);
+    refuses("8, no charge set", set_charge("x", 50), STRAP_NOT_HELD);
+    charges_are("after refusals", 255, 255, 100, 0);
+    says("check with charges", check(), STRAP_DONE, 0, 0);
+    says("delete b with two sons", delete("b"), STRAP_UPDATED, 1, 0);
+    charges_are("after b is deleted", 0, 255, 100, 0);
+    says("insert b anew", insert("b", 11), STRAP_UPDATED, 1, 0);
+    charges_are("after b is inserted anew", 255, 255, 100, 0);
+    table[0] = SLOTS + 1;
+    refuses("24 before 6", set_charge("b", 101), STRAP_WRONG_CHARGE);
+    refuses("6, no charge set", set_charge("b", 50), STRAP_NOT_SOUND);
+    refuses("1 before 24", strap_set_charge(table, WORDS - 1, store, BYTES, (const uint8_t *)"b", 1, 101),
+            STRAP_WRONG_TABLE);
+    refuses("2 before 24", strap_set_charge(table, WORDS, store, BYTES - 1, (const uint8_t *)"b", 1, 101),
+            STRAP_WRONG_STORE);
+}
+#endif
 
 /* Three digits in ascending order: the label of slot i + 1 in a full table. */
 static void spell(char *label, unsigned i)
@@ -241,6 +313,10 @@ int each_call(void)
     refusals();
     spellings();
     neighbours();
+    charges_kept();
+#ifndef PAGE
+    charges_set();
+#endif
     full();
     return failed;
 }

@@ -33,6 +33,8 @@ static bool zero_words(const uint16_t *words, size_t from, size_t to)
     return true;
 }
 
+static bool is_charge(uint16_t word) { return word <= 100 || word == STRAP_UNKNOWN_CHARGE; }
+
 /* The difference place of two labels that ascend, or 0. */
 static size_t ascend(const uint8_t *a, size_t m, const uint8_t *b, size_t n)
 {
@@ -61,7 +63,7 @@ static int height_of(const struct memory *m, int left, size_t link, size_t below
     const uint16_t *row = row_of(m, link);
     const uint8_t *label = label_of(m, link);
     size_t len = row[5];
-    if (len < 1 || len > WIDTH || row[7] != 0 || !zero_bytes(label, len, WIDTH))
+    if (len < 1 || len > WIDTH || !is_charge(row[7]) || !zero_bytes(label, len, WIDTH))
         return -1;
     size_t lower = 0, upper = 0;
     if (below != 0 && (lower = ascend(label_of(m, below), row_of(m, below)[5], label, len)) == 0)

@@ -1,5 +1,5 @@
-/* The strap label index for C99 and C++: the eight calls of the hub's index, in the proved static library `exports`,
- * and the same eight of the pairing page's own small index, in `page_exports`.
+/* The strap label index for C99 and C++: the nine calls of the hub's index, in the proved static library `exports`, and
+ * the same, but for strap_set_charge, of the pairing page's own small index, in `page_exports`.
  *
  * Build a library with `rt staticlib exports` or `rt staticlib page_exports`, and link target/staticlib/libexports.a,
  * libpage_exports.a or both (x86-64 Linux).
@@ -27,6 +27,11 @@
 enum { STRAP_SLOTS = 512, STRAP_WIDTH = 64, STRAP_WORDS = 4100, STRAP_BYTES = 32768 };
 enum { STRAP_PAGE_SLOTS = 32, STRAP_PAGE_WIDTH = 20, STRAP_PAGE_WORDS = 260, STRAP_PAGE_BYTES = 640 };
 
+/* A strap's charge: 0 to 100, or unknown, as an insert leaves it. It is the last of its slot's eight words, which stand
+ * from 4 + 8 * (slot - 1) on. */
+enum { STRAP_UNKNOWN_CHARGE = 255 };
+static inline unsigned strap_charge_in(const uint16_t *table, size_t slot) { return table[4 + 8 * (slot - 1) + 7]; }
+
 /* An answer is one number, from its lowest bits: 4 of kind, 12 of places, 16 of visits, then 16 and 16, `one` and
  * `other` below. What a kind does not name is 0. Visits are the nodes that the call's search visited, places the places
  * of labels that it examined: on sound memory at most the visits and the most leading bytes, A to Z as a to z, that the
@@ -35,7 +40,7 @@ enum strap_kind {
     STRAP_REFUSED = 0, /* one: the refusal's number */
     STRAP_FOUND = 1,   /* places, visits; one: the label's slot; other: its value */
     STRAP_ABSENT = 2,  /* places, visits; one: the nearest smaller label's slot; other: the nearest larger's; 0: none */
-    STRAP_UPDATED = 3, /* places, visits of the call's search; one: the slot taken or freed */
+    STRAP_UPDATED = 3, /* places, visits of the call's search; one: the slot taken or freed, or whose charge was set */
     STRAP_DONE = 4,    /* nothing more */
     STRAP_LISTED = 5,  /* one: how many slots were written */
     STRAP_VIEWED = 6   /* one: where in the store the label begins; other: its length */
@@ -43,17 +48,18 @@ enum strap_kind {
 
 /* Why a call is refused; of those that apply, the first in this order. The sizes are those of the index called. */
 enum strap_refusal {
-    STRAP_WRONG_TABLE = 1,  /* table not of its words: all calls */
-    STRAP_WRONG_STORE = 2,  /* store not of its bytes: all calls */
-    STRAP_EMPTY_LABEL = 3,  /* label of length 0: search, insert, delete */
-    STRAP_LONG_LABEL = 4,   /* label longer than its width: search, insert, delete */
-    STRAP_WRONG_SLOT = 11,  /* slot 0 or above its slots, or the length word there is 0 or above its width: the view */
-    STRAP_BROKEN_WALK = 5,  /* the walk met a link or a row that cannot be: search */
-    STRAP_NOT_SOUND = 6,    /* table and store are not sound: insert, delete, check, listing */
-    STRAP_ALREADY_HELD = 7, /* the label is held already, in this or another spelling: insert */
-    STRAP_NOT_HELD = 8,     /* the label is not held: delete */
-    STRAP_FULL = 9,         /* as many labels are held as it has slots: insert */
-    STRAP_SHORT_LIST = 10   /* list shorter than the labels held: listing */
+    STRAP_WRONG_TABLE = 1,   /* table not of its words: all calls */
+    STRAP_WRONG_STORE = 2,   /* store not of its bytes: all calls */
+    STRAP_EMPTY_LABEL = 3,   /* label of length 0: search, insert, delete, set_charge */
+    STRAP_LONG_LABEL = 4,    /* label longer than its width: search, insert, delete, set_charge */
+    STRAP_WRONG_CHARGE = 24, /* a charge neither 0 to 100 nor STRAP_UNKNOWN_CHARGE: set_charge */
+    STRAP_WRONG_SLOT = 11,   /* slot 0 or above its slots, or the length word there is 0 or above its width: the view */
+    STRAP_BROKEN_WALK = 5,   /* the walk met a link or a row that cannot be: search */
+    STRAP_NOT_SOUND = 6,     /* table and store are not sound: insert, delete, set_charge, check, listing */
+    STRAP_ALREADY_HELD = 7,  /* the label is held already, in this or another spelling: insert */
+    STRAP_NOT_HELD = 8,      /* the label is not held: delete, set_charge */
+    STRAP_FULL = 9,          /* as many labels are held as it has slots: insert */
+    STRAP_SHORT_LIST = 10    /* list shorter than the labels held: listing */
 };
 
 /* ---- the parts of an answer */
@@ -95,6 +101,10 @@ uint64_t strap_insert(uint16_t *table, size_t words, uint8_t *store, size_t byte
 /* STRAP_UPDATED. */
 uint64_t strap_delete(uint16_t *table, size_t words, uint8_t *store, size_t bytes, const uint8_t *label, size_t n);
 
+/* STRAP_UPDATED: the charge of the label's slot is set, and nothing else. */
+uint64_t strap_set_charge(uint16_t *table, size_t words, const uint8_t *store, size_t bytes, const uint8_t *label,
+                          size_t n, uint16_t charge);
+
 /* STRAP_DONE: table and store are sound. */
 uint64_t strap_check(const uint16_t *table, size_t words, const uint8_t *store, size_t bytes);
 
@@ -108,7 +118,7 @@ uint64_t strap_view_check(const uint16_t *table, size_t words, const uint8_t *st
 /* STRAP_VIEWED: the slot's label is the part of the lent store from `start` on, `length` bytes long. */
 uint64_t strap_view(const uint16_t *table, size_t words, const uint8_t *store, size_t bytes, size_t slot);
 
-/* The same calls of the page's index. */
+/* The same calls of the page's index, which keeps charges by the same rule and has no call that sets one. */
 uint64_t strap_page_layout(uint16_t *table, size_t words, uint8_t *store, size_t bytes);
 uint64_t strap_page_search(const uint16_t *table, size_t words, const uint8_t *store, size_t bytes,
                            const uint8_t *label, size_t n);

@@ -8,7 +8,7 @@ use std::num::wrapping_add_usize;
 
 // Writes so many slots into the list, in ascending order of their labels, by the links of a table that is sound.
 pub fn write(image: &mut Image, held: usize) {
-    let mut tree = [0u16; 35397];
+    let mut tree = [0u16; 35910];
     sound::read_tree(image, &mut tree);
     let mut slot = lowest(image, memory::word(image, memory::ROOT));
     for i in 0..held {

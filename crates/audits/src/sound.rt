@@ -1,5 +1,6 @@
 // Soundness: the tree is read level by level, each node tested against its two neighbours above it, heights are counted
 // from the last node back to the root, and what is left must be the free chain and slots that are all zero.
+use crate::charges::charge_refusal;
 use crate::lengths::label_refusal;
 use images::memory;
 use images::memory::Image;
@@ -22,7 +23,7 @@ const HEIGHT: usize = 4;
 const NO_TREE: usize = 65536;
 
 pub fn is_sound(image: &Image) -> bool {
-    let mut work = [0u16; 35397];
+    let mut work = [0u16; 35910];
     if memory::word(image, memory::MARK) > memory::entry(image, memory::SLOTS) {
         return false;
     }
@@ -131,13 +132,13 @@ fn node_holds(image: &Image, slot: usize, before: usize, after: usize) -> bool {
     prefix_holds(image, slot, low, high)
 }
 
-// Whether a slot's length is a label's, its last word 0, and its bytes past the label 0.
+// Whether a slot's length is a label's, its last word a charge, and its bytes past the label 0.
 fn label_holds(image: &Image, slot: usize) -> bool {
     let len = memory::field(image, slot, memory::LENGTH);
     if label_refusal(image, len) > 0 {
         return false;
     }
-    if memory::field(image, slot, memory::SPARE) > 0 {
+    if charge_refusal(memory::field(image, slot, memory::CHARGE)) > 0 {
         return false;
     }
     bytes_are_zero(image, slot, len)

@@ -10,7 +10,8 @@ use Rattle.trees.specs.Plain.{Call, search, insert, delete}
 use Rattle.tables.specs.Words.{rootLink, rowAt}
 use Rattle.tables.specs.Written.{Memory}
 use Rattle.tables.specs.Outcomes.{searchOutcome, layoutOutcome}
-use Rattle.tables.specs.Claims.{callOutcome, labelIn}
+use Rattle.tables.specs.Claims.{callOutcome}
+use Rattle.tables.specs.MapClaims.{labelIn}
 
 -- what a case asks, after its calls
 pub data Question : Type 0 where

@@ -2,18 +2,20 @@
 use images::memory::Image;
 use images::packing;
 use oracles::bounds;
-use oracles::outcomes;
+use oracles::updates;
 use plainmap::Said;
 use plainmap::lists::Lists;
 use reports::faults;
 use samples::calls::INSERT;
 use samples::calls::SEARCH;
+use samples::calls::SET_CHARGE;
 
-// Makes a search or an update on the map.
-pub fn on_map(map: &mut Lists, call: usize, label: &[u8], value: usize) -> Said {
+// Makes a search or an update on the map, with a value or a charge.
+pub fn on_map(map: &mut Lists, call: usize, label: &[u8], number: usize) -> Said {
     match call {
         SEARCH => plainmap::search(map, label),
-        INSERT => plainmap::insert(map, label, (value % 65536) as u16),
+        INSERT => plainmap::insert(map, label, (number % 65536) as u16),
+        SET_CHARGE => plainmap::set_charge(map, label, number),
         _ => plainmap::delete(map, label),
     }
 }
@@ -24,11 +26,12 @@ pub fn fault(
     found: &Image,
     call: usize,
     label: &[u8],
+    number: usize,
     shared: usize,
     said: usize,
     plain: Said,
 ) -> usize {
-    if said != outcomes::on_sound(found, call, label) {
+    if said != updates::on_sound(found, call, label, number) {
         return faults::ANSWER;
     }
     if said != as_map(call, said, plain) {
@@ -49,7 +52,7 @@ pub fn bounds_fault(found: &Image, label: &[u8], shared: usize, said: usize) -> 
 
 // What the search steps say.
 fn searched(found: &Image, label: &[u8]) -> usize {
-    outcomes::on_sound(found, SEARCH, label)
+    updates::on_sound(found, SEARCH, label, 0)
 }
 
 fn counts_fault(found: &Image, len: usize, shared: usize, answer: usize) -> usize {
@@ -62,8 +65,11 @@ fn counts_fault(found: &Image, len: usize, shared: usize, answer: usize) -> usiz
     0
 }
 
-// Whether the search of a call reached the bound by shared bytes.
-pub fn reached(found: &Image, label: &[u8], shared: usize) -> bool {
+// Whether the search of a call reached the bound by shared bytes; a call that refuses a charge makes none.
+pub fn reached(found: &Image, label: &[u8], shared: usize, said: usize) -> bool {
+    if packing::refusal(said) == 24 {
+        return false;
+    }
     bounds::shared_reached(shared, searched(found, label))
 }
 

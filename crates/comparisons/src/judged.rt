@@ -1,6 +1,7 @@
-// A call on any memory, compared with the second writing; where the memory is sound, a search also with the map of the
-// labels held, and an update's counts with the bytes shared with these.
+// A call on any memory, compared with the second writing; where the memory is sound, a search and a charge call also
+// with the map of the labels held, and an update's counts with the bytes shared with these.
 use crate::answers;
+use crate::charges;
 use crate::maps;
 use audits::lengths;
 use audits::sound;
@@ -8,13 +9,15 @@ use images::memory;
 use images::memory::Image;
 use images::packing;
 use oracles::outcomes;
+use oracles::updates;
 use reports::faults;
 use samples::calls::DELETE;
 use samples::calls::INSERT;
 use samples::calls::SEARCH;
+use samples::calls::SET_CHARGE;
 use std::num::wrapping_add_usize;
 
-// The fault of a call on a label, with a value or a slot: its answer, what it left, or its counts.
+// The fault of a call on a label, with a value, a slot or a charge: its answer, what it left, or its counts.
 pub fn fault(
     found: &Image,
     left: &Image,
@@ -27,7 +30,7 @@ pub fn fault(
     if said != outcomes::judge(&mut judged, call, label, number) {
         return faults::ANSWER;
     }
-    if packing::kind(said) == packing::UPDATED {
+    if (packing::kind(said) == packing::UPDATED) & (call != SET_CHARGE) {
         let fault = update_fault(found, left, call, label, inserted_as(said, number));
         if fault > 0 {
             return fault;
@@ -35,28 +38,48 @@ pub fn fault(
     } else if !memory::same(&judged, left) {
         return faults::MEMORY;
     }
+    if has_map(found, call) {
+        return labelled_fault(found, left, call, label, number, said);
+    }
+    0
+}
+
+// Whether a call is one on a label, on sound memory of the right lengths: of any other memory there is no map.
+fn has_map(image: &Image, call: usize) -> bool {
     match call {
-        SEARCH | INSERT | DELETE => labelled_fault(found, call, label, said),
-        _ => 0,
+        SEARCH | INSERT | DELETE | SET_CHARGE => is_sound(image),
+        _ => false,
     }
 }
 
-// The fault of a search or an update on sound memory of the right lengths, beside the map of the labels held: of a
-// search's answer, of an update's counts; on any other there is no map.
-fn labelled_fault(image: &Image, call: usize, label: &[u8], said: usize) -> usize {
+fn is_sound(image: &Image) -> bool {
     if lengths::lent_refusal(image) > 0 {
-        return 0;
+        return false;
     }
-    if !sound::is_sound(image) {
-        return 0;
-    }
-    let map = maps::of_table(image);
+    sound::is_sound(image)
+}
+
+// The fault of a search or an update beside the map of the labels held: of a search's answer, of a charge call's and
+// the charges that it left, of an insert's or a delete's counts.
+fn labelled_fault(
+    found: &Image,
+    left: &Image,
+    call: usize,
+    label: &[u8],
+    number: usize,
+    said: usize,
+) -> usize {
+    let mut map = maps::of_table(found);
     let shared = plainmap::most_shared(&map, label);
-    if call == SEARCH {
-        let plain = plainmap::search(&map, label);
-        return answers::fault(image, SEARCH, label, shared, said, plain);
+    if (call == INSERT) | (call == DELETE) {
+        return answers::bounds_fault(found, label, shared, said);
     }
-    answers::bounds_fault(image, label, shared, said)
+    let plain = answers::on_map(&mut map, call, label, number);
+    let fault = answers::fault(found, call, label, number, shared, said, plain);
+    if (fault > 0) | charges::agree(left, &map) {
+        return fault;
+    }
+    faults::CHARGES
 }
 
 // A slot and a value, in one number.
@@ -64,14 +87,18 @@ fn inserted_as(said: usize, value: usize) -> usize {
     packing::counted(0, 0, 0, packing::one(said), value)
 }
 
-// The fault of what an update left that was not refused: a table that is not sound, or on which it is not done.
+// The fault of what an insert or a delete left that was not refused: a table that is not sound, on which a charge has
+// changed, or on which it is not done.
 fn update_fault(found: &Image, left: &Image, call: usize, label: &[u8], entry: usize) -> usize {
     if !sound::is_sound(left) {
         return faults::SOUND;
     }
+    if !charges::stay(found, left, packing::one(entry), charge_left(call)) {
+        return faults::CHARGES;
+    }
     let before = memory::word(found, memory::HELD);
     let after = memory::word(left, memory::HELD);
-    let met = outcomes::on_sound(left, SEARCH, label);
+    let met = updates::on_sound(left, SEARCH, label, 0);
     if call == INSERT {
         if !stands(left, packing::one(entry), label) {
             return faults::MEMORY;
@@ -79,6 +106,14 @@ fn update_fault(found: &Image, left: &Image, call: usize, label: &[u8], entry: u
         return inserted_fault(entry, met, wrapping_add_usize(before, 1) == after);
     }
     deleted_fault(met, before == wrapping_add_usize(after, 1))
+}
+
+// The charge of the slot that an insert takes, 255 for unknown, or that a delete frees, 0.
+fn charge_left(call: usize) -> usize {
+    if call == INSERT {
+        return 255;
+    }
+    0
 }
 
 // Whether a slot's bytes begin with a label's, in its spelling.

@@ -6,9 +6,9 @@ use samples::shapes;
 use samples::shapes::Label;
 use std::num::wrapping_add_usize;
 
-// The map of the labels in the slots of a table, each in its slot, with its value.
+// The map of the labels in the slots of a table, each in its slot, with its value and its charge.
 pub fn of_table(image: &Image) -> Lists {
-    let mut map = [0u16; 35397];
+    let mut map = [0u16; 35910];
     let width = memory::entry(image, memory::WIDTH);
     plainmap::clear(&mut map, memory::entry(image, memory::SLOTS), width);
     let mark = memory::word(image, memory::MARK);
@@ -30,6 +30,7 @@ fn take(image: &Image, map: &mut Lists, slot: usize) {
             slot,
             shapes::opening(&label, n),
             (value % 65536) as u16,
+            memory::field(image, slot, memory::CHARGE),
         );
     }
 }

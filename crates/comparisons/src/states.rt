@@ -1,24 +1,42 @@
 // What a call on a sound table left, compared with the map.
+use crate::charges;
 use audits::sound;
 use images::memory;
 use images::memory::Image;
 use images::packing;
 use plainmap::lists::Lists;
 use reports::faults;
+use samples::calls::SET_CHARGE;
 
-// The fault of what a call left: other memory than it found, unless it updated; a table that is not sound; another head
-// than the map's.
-pub fn fault(found: &Image, left: &Image, map: &Lists, said: usize) -> usize {
-    if memory::same(found, left) == (packing::kind(said) == packing::UPDATED) {
+// The fault of what a call left: other memory than it is to leave; a table that is not sound; another head than the
+// map's; another charge of a label.
+pub fn fault(found: &Image, left: &Image, map: &Lists, call: usize, said: usize) -> usize {
+    if !memory_agrees(found, left, call, said) {
         return faults::MEMORY;
     }
     if !sound::is_sound(left) {
         return faults::SOUND;
     }
-    if head_agrees(left, map) {
+    if !head_agrees(left, map) {
+        return faults::HEAD;
+    }
+    if charges::agree(left, map) {
         return 0;
     }
-    faults::HEAD
+    faults::CHARGES
+}
+
+// Whether a call that updated left other memory, and any other call the same; one that set a charge changed at most
+// that word.
+fn memory_agrees(found: &Image, left: &Image, call: usize, said: usize) -> bool {
+    let updated = packing::kind(said) == packing::UPDATED;
+    if (call == SET_CHARGE) & updated {
+        let slot = packing::one(said);
+        let mut set = *found;
+        memory::put_field(&mut set, slot, memory::CHARGE, charges::of_slot(left, slot));
+        return memory::same(&set, left);
+    }
+    memory::same(found, left) != updated
 }
 
 // The labels held, the high mark, and the slot freed last.

@@ -59,7 +59,7 @@ zero-at (n ∷ list) zeros (suc i) = zero-at list (both-true (eqb n 0) _ .0 zero
 -- A row that is zero besides word 0 has the length 0.
 length-of-freed : (row : Row) → zeroBesidesLeft row ≡ true → row .len ≡ 0
 length-of-freed row zeros =
-    zero-at (row .right ∷ row .place ∷ row .side ∷ row .balance ∷ row .len ∷ row .value ∷ row .spare ∷ []) zeros 4
+    zero-at (row .right ∷ row .place ∷ row .side ∷ row .balance ∷ row .len ∷ row .value ∷ row .charge ∷ []) zeros 4
 
 module _ (limits : Limits) (table store : List ℕ) where
   -- The slots of a tree that stands at a link are at least 1.

@@ -11,6 +11,7 @@ use Rattle.types.specs.declared.Row.{Row}
 use Rattle.types.specs.Sizes.{hub, tableLength, storeLength}
 use Rattle.types.specs.Answers.{Answer, found, absent, updated, listed, done, refused}
 use Rattle.labels.specs.Labels.{Label, numberOf, compareLabels, compareFrom, differencePlace}
+use Rattle.trees.specs.Charges.{unknown}
 use Rattle.trees.specs.Plain.{Call, insert, delete}
 use Rattle.tables.proofs.Depths.{hub-depth}
 use Rattle.tables.specs.Words.{labelsHeld, rowAt, partAt, labelAt}
@@ -19,7 +20,8 @@ use Rattle.tables.specs.Steps.{isBad, walkFromRoot, searchSteps}
 use Rattle.tables.specs.Sound.{wordsAndBytes, counted, soundAs, sound, stateOf}
 use Rattle.tables.specs.Outcomes.{Outcome, walkAnswer, searchOutcome, layoutOutcome, updateOutcome, listingOutcome}
 use Rattle.cases.specs.Cases.{a, b, c, d, roster, three, laidOut}
-use Rattle.tables.specs.Claims.{labelIn, LabelFits}
+use Rattle.tables.specs.Claims.{LabelFits}
+use Rattle.tables.specs.MapClaims.{labelIn}
 use Rattle.demands.specs.Counts.{afterList}
 use Rattle.demands.specs.Ties.{stepsBefore, tiesMet}
 use Rattle.demands.specs.Trials.{Fair, stepOnBoth}
@@ -95,7 +97,7 @@ pub record UnderB (x : Label) (side : ℕ) : Type 0 where
 -- the row of "aa", a leaf on the left of its successor, with this place
 abbrev pub rowOfAA : ℕ → Row
 rowOfAA place =
-    record { left = 0; right = 0; place = place; side = 1; balance = 1; len = 2; value = 2; spare = 0 }
+    record { left = 0; right = 0; place = place; side = 1; balance = 1; len = 2; value = 2; charge = unknown }
 
 pub record Shown : Type 0 where
   -- cases 1 and 2, and two labels that are unlike "a" at place 1 and at its end

@@ -11,7 +11,7 @@ use Rattle.types.specs.declared.Limits.{Limits}
 use Rattle.labels.specs.Labels.{Label}
 use Rattle.trees.specs.Heights.{Deepest}
 use Rattle.trees.specs.Searches.{Held, absent, found, fullSearch}
-use Rattle.trees.specs.Plain.{State, fresh, Call, search, insert, delete, soughtBy}
+use Rattle.trees.specs.Plain.{State, fresh, Call, search, insert, delete, set-charge, soughtBy}
 use Rattle.trees.specs.Plain.{afterSearch, afterLength, plainStep}
 use Rattle.trees.specs.Valid.{Valid}
 use Rattle.trees.proofs.ValidSteps.{valid-fresh, valid-after}
@@ -54,12 +54,13 @@ module _ (limits : Limits) (deepest : Deepest (limits .slots) (limits .depth)) w
         }
     call-outcome (insert x value) = update-outcome limits s deepest valid (insert x value)
     call-outcome (delete x) = update-outcome limits s deepest valid (delete x)
+    call-outcome (set-charge x n) = update-outcome limits s deepest valid (set-charge x n)
 
     -- Each call on a valid state written out agrees with the plain tree's step.
     pub call-agrees : (c : Call) → CallAgrees limits c (written limits s) s
     call-agrees c = record {
-      search = λ fits. search-of-written limits deepest s valid (soughtBy c);
-      finds = finds-held limits deepest s valid (soughtBy c);
+      search = λ makes. search-of-written limits deepest s valid (soughtBy c);
+      finds = λ makes. finds-held limits deepest s valid (soughtBy c) (makes .label);
       answer = ap (λ (o : Outcome). o .answer) (call-outcome c);
       memory = ap (λ (o : Outcome). o .memory) (call-outcome c);
     }

@@ -2,7 +2,7 @@
 -- counts-within: a search visits at most as many nodes as the depth, and examines at most as many places as the width
 -- and the depth together.
 use mathlib.Core.List.{List, [], _∷_, _++_}
-use mathlib.Core.Path.{_≡_, ap}
+use mathlib.Core.Path.{_≡_, refl, ap}
 use Prim.Native.Nat.{_+_}
 use native.Mathlib.Omega.{arith}
 use lib.ListN.{length}
@@ -35,7 +35,7 @@ module _ (limits : Limits) (x : Label) (fits : LabelFits limits x) where
   few-after : (calls : List Call) (m : Memory) (s : State) → CallsAgree limits (calls ++ (search x ∷ [])) m s
       → Few (limits .depth) (limits .width + limits .depth)
       (searchSteps limits (afterList limits calls m .table) (afterList limits calls m .store) x)
-  few-after [] m s agree = few-of-agreeing m (s .tree) (agree .0 .search fits)
+  few-after [] m s agree = few-of-agreeing m (s .tree) (agree .0 .search (record { label = fits; charge = refl }))
   few-after (c ∷ calls) m s agree =
       few-after calls (callOutcome limits c m .memory) (plainStep (limits .slots) (limits .width) c s .state) (agree .1)
 

@@ -13,7 +13,8 @@ use Rattle.tables.specs.Written.{Memory}
 use Rattle.tables.specs.Steps.{Walk, broken, ended, searchSteps}
 use Rattle.tables.specs.Sound.{stateOf}
 use Rattle.tables.specs.Outcomes.{Verdict, pass, refuse, Outcome, outcomeBy, answerBy, answerOf, walkAnswer}
-use Rattle.tables.specs.Outcomes.{replyAnswer, ofMemory, ofLabel, ofTable, settled, searchOutcome, updateOutcome}
+use Rattle.tables.specs.Outcomes.{replyAnswer, ofMemory, ofLabel, ofCharge, ofTable, settled, searchOutcome}
+use Rattle.tables.specs.Outcomes.{updateOutcome}
 use Rattle.demands.specs.Trials.{SearchVersion, UpdateVersion, MeetsSearch, MeetsUpdate, Count, ofCounts}
 use Rattle.demands.specs.Trials.{countIn, countOf, CountGives, lent}
 
@@ -60,7 +61,8 @@ module _ (k : Count) where
       → CountGives k (countOf k (searchSteps hub table store (soughtBy c))) (f c table store .answer)
   unfolding updateOutcome
   update-counts f meets c table store n given =
-      counts-of-outcome (ofMemory hub table store (ofLabel hub (soughtBy c) (ofTable hub table store pass)))
+      counts-of-outcome
+      (ofMemory hub table store (ofLabel hub (soughtBy c) (ofCharge c (ofTable hub table store pass))))
       (lent table store) (searchSteps hub table store (soughtBy c))
       (plainStep (hub .slots) (hub .width) c (stateOf hub table store)) n
       (sym (ap (λ (o : Outcome). countIn k (o .answer)) (meets c table store)) ∙ given)

@@ -48,7 +48,7 @@ module _ (limits : Limits) (deepest : Deepest (limits .slots) (limits .depth))
       ≡ answerOf sought below above (visitsOf walk) (placesOf walk)
   answered =
       rw (answer-of-held sought below above walk s)
-      (rw (step-of-fitting (limits .slots) (limits .width) (search x) s (fits .some) (fits .short))
+      (rw (step-of-fitting (limits .slots) (limits .width) (search x) s (fits .some) (fits .short) refl)
       at (search-outcome limits s deepest valid x))
 
   -- It is answered found with the slot and the value of the node that has the label, and found nowhere else.

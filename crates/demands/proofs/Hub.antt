@@ -6,16 +6,19 @@
 -- hub-tie-saves: the places that the first line of the search steps saves.
 -- hub-true-neighbours: who stands next to a missing label.
 -- hub-shared-limit, hub-length-limit, hub-no-smaller-limit: limits on places, the second from the first.
+-- hub-charge-rule: word 7 on sound tables.
 use native.Mathlib.Omega.{arith}
 use Rattle.types.specs.Sizes.{hub, page}
 use Rattle.tables.proofs.Depths.{hub-depth}
-use Rattle.tables.specs.Claims.{SoundIsWritten, OrderedMap, CostRule}
+use Rattle.tables.specs.Claims.{SoundIsWritten, CostRule}
+use Rattle.tables.specs.MapClaims.{OrderedMap}
 use Rattle.sounds.proofs.SoundIsWritten.{sound-is-written}
 use Rattle.demands.specs.Counts.{CountsWithin, BreaksAfter}
 use Rattle.demands.specs.OtherMemory.{RefusesTableOf}
 use Rattle.demands.specs.Spellings.{OneName, SpellingStays}
 use Rattle.demands.specs.Ties.{TieSaves}
 use Rattle.demands.specs.NextTo.{TrueNeighbours}
+use Rattle.demands.specs.Charges.{ChargeRule}
 use Rattle.demands.specs.PlaceLimits.{SharedLimit, LengthLimit, NoSmallerLimit}
 use Rattle.demands.proofs.CostRule.{cost-rule}
 use Rattle.demands.proofs.OrderedMap.{ordered-map}
@@ -26,6 +29,7 @@ use Rattle.demands.proofs.OneName.{one-name}
 use Rattle.demands.proofs.Spellings.{spelling-stays}
 use Rattle.demands.proofs.Ties.{tie-saves}
 use Rattle.demands.proofs.NextTo.{true-neighbours}
+use Rattle.demands.proofs.ChargeRule.{charge-rule}
 use Rattle.demands.proofs.PlaceLimits.{shared-limit, length-limit}
 use Rattle.demands.proofs.Sharp.{no-smaller-limit}
 
@@ -78,3 +82,7 @@ hub-length-limit = length-limit hub hub-shared-limit
 
 pub hub-no-smaller-limit : NoSmallerLimit hub
 hub-no-smaller-limit = no-smaller-limit hub hub-depth (omega arith)
+
+-- On a sound table of the hub, word 7 of a slot in use is a charge, and may be any; in another slot it is 0.
+pub hub-charge-rule : ChargeRule hub
+hub-charge-rule = charge-rule hub hub-depth

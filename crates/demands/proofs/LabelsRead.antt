@@ -1,16 +1,19 @@
 -- The labels of a represented tree are read back from its slots.
--- label-read: so is the label of a node. labels-read: so are those of all nodes, from left to right.
--- found-in-slot: so is the label of the node that a search finds.
+-- label-read, charge-read: so are the label and the charge of a node. labels-read: so are the labels of all
+-- nodes, from left to right.
+-- of-node: what is so of a node that is held in its slot is so of each node.
+-- found-in-slot: the label and the charge of the node that a search finds are read back from its slot.
 use mathlib.Core.List.{_∷_, _++_, map, map-append}
-use mathlib.Core.Path.{_≡_, refl, ap₂}
+use mathlib.Core.Path.{_≡_, refl, ap, ap₂}
 use Rattle.types.specs.declared.Limits.{Limits}
-use Rattle.labels.specs.Labels.{Label, Comparison, smaller, same, larger, compareLabels}
+use Rattle.types.specs.declared.Row.{Row}
+use Rattle.labels.specs.Labels.{Label}
 use Rattle.labels.specs.Neighbours.{Neighbour, held}
-use Rattle.labels.proofs.Clashes.{clash}
-use Rattle.trees.specs.Trees.{Entry, Tree, empty, node, labels, slots}
-use Rattle.trees.specs.Searches.{found, Search, searchBy, fullSearch}
+use Rattle.trees.specs.Trees.{Entry, Tree, empty, node, NodeOf, at-root, on-left, on-right, labels, slots}
+use Rattle.trees.specs.Searches.{found, fullSearch}
+use Rattle.trees.proofs.Searched.{found-node}
 use Rattle.tables.specs.Written.{Memory}
-use Rattle.tables.specs.Claims.{labelIn}
+use Rattle.tables.specs.MapClaims.{labelIn, chargeIn}
 use Rattle.tables.proofs.Represents.{NodeHeld, Represents}
 
 module _ (limits : Limits) (m : Memory) where
@@ -23,28 +26,28 @@ module _ (limits : Limits) (m : Memory) where
   pub labels-read : (p s : Neighbour) (t : Tree) → Represents limits (m .table) (m .store) p s t
       → map (labelIn limits m) (slots t) ≡ labels t
   labels-read p s empty there = refl
-  labels-read p s (node l e r) (own, on-left, on-right) =
+  labels-read p s (node l e r) (own, of-l, of-r) =
       simp map-append
-      (ap₂ _++_ (labels-read p (held (e .label)) l on-left)
-      (ap₂ _∷_ (label-read own) (labels-read (held (e .label)) s r on-right)))
+      (ap₂ _++_ (labels-read p (held (e .label)) l of-l)
+      (ap₂ _∷_ (label-read own) (labels-read (held (e .label)) s r of-r)))
 
-  module _ (x : Label) where
-    -- the node that a search finds has its label in its slot
-    abbrev FoundRead : Search → Type 0
-    FoundRead search = (e : Entry) → search .result ≡ found e → labelIn limits m (e .slot) ≡ e .label
+  -- So is its charge.
+  pub charge-read : {p s : Neighbour} {l r : Tree} {e : Entry} → NodeHeld limits (m .table) (m .store) p l e r s
+      → chargeIn m (e .slot) ≡ e .charge
+  charge-read own = ap (λ (row : Row). row .charge) (own .row)
 
-    -- At a node, the comparison says where it is found.
-    found-at-node : (d : Entry) (onLeft onRight : Search) → labelIn limits m (d .slot) ≡ d .label
-        → FoundRead onLeft → FoundRead onRight → (c : Comparison) → FoundRead (searchBy c d onLeft onRight)
-    found-at-node d onLeft onRight here left right (smaller i) e there = left e there
-    found-at-node d onLeft onRight here left right (same i) e there = let itself : d ≡ e = cc in rw itself at here
-    found-at-node d onLeft onRight here left right (larger i) e there = right e there
+  -- What is so of a node that is held in its slot is so of each node of a represented tree.
+  pub of-node : (P : Entry → Type 0)
+      → ((p s : Neighbour) (l r : Tree) (e : Entry) → NodeHeld limits (m .table) (m .store) p l e r s → P e)
+      → (p s : Neighbour) {t : Tree} {e : Entry} → NodeOf e t → Represents limits (m .table) (m .store) p s t → P e
+  of-node P so p s at-root represented = so p s _ _ _ (represented .0)
+  of-node P so p s (on-left {d = d} there) represented = of-node P so p (held (d .label)) there (represented .1)
+  of-node P so p s (on-right {d = d} there) represented = of-node P so (held (d .label)) s there (represented .2)
 
-    -- The node that a search finds has its label in its slot.
-    pub found-in-slot : (p s : Neighbour) (t : Tree) → Represents limits (m .table) (m .store) p s t
-        → FoundRead (fullSearch x t)
-    found-in-slot p s empty there e held-so = clash cc
-    found-in-slot p s (node l d r) (own, on-left, on-right) e held-so =
-        found-at-node d (fullSearch x l) (fullSearch x r) (label-read own)
-        (found-in-slot p (held (d .label)) l on-left) (found-in-slot (held (d .label)) s r on-right)
-        (compareLabels x (d .label)) e held-so
+  -- The node that a search finds has its label and its charge in its slot.
+  pub found-in-slot : (x : Label) (p s : Neighbour) (t : Tree) → Represents limits (m .table) (m .store) p s t
+      → (e : Entry) → fullSearch x t .result ≡ found e
+      → (labelIn limits m (e .slot) ≡ e .label) × (chargeIn m (e .slot) ≡ e .charge)
+  found-in-slot x p s t represented e held-so =
+      of-node (λ e. (labelIn limits m (e .slot) ≡ e .label) × (chargeIn m (e .slot) ≡ e .charge))
+      (λ p s l r e own. (label-read own, charge-read own)) p s (found-node x t held-so) represented

@@ -8,6 +8,9 @@ pub mod OnSound
 pub mod LabelsRead
 pub mod MapCalls
 pub mod Listings
+pub mod MapOthers
+pub mod Others
+pub mod Charges
 pub mod OrderedMap
 pub mod OneName
 pub mod MapSpellings
@@ -20,6 +23,7 @@ pub mod Ties
 pub mod NextTo
 pub mod PlaceLimits
 pub mod Sharp
+pub mod ChargeRule
 pub mod Hub
 pub mod Page
 pub mod SoundAfter
@@ -29,3 +33,4 @@ pub mod RefutedSearches
 pub mod RefutedUpdates
 pub mod RefutedCalls
 pub mod RefutedLimits
+pub mod RefutedCharges

@@ -17,7 +17,7 @@ use Rattle.trees.proofs.MapLaws.{keys-of-map}
 use Rattle.trees.proofs.SlotCounts.{length-of-slots}
 use Rattle.tables.specs.Written.{written, writtenTable, writtenStore}
 use Rattle.tables.specs.Outcomes.{listingOutcome}
-use Rattle.tables.specs.Claims.{mapIn, ListsAscending}
+use Rattle.tables.specs.MapClaims.{mapIn, ListsAscending}
 use Rattle.written.proofs.Rows.{count-of-written}
 use Rattle.written.proofs.Slots.{written-represents}
 use Rattle.written.proofs.Readings.{state-of-written}

@@ -1,11 +1,12 @@
 -- The plain tree's steps are those of the ordered map, for a label that fits.
--- step-of-fitting: a call with a label that fits is settled by what its search found.
+-- step-past-label, step-of-fitting: a call with a label that fits is settled by the test of its charge, and past it by
+-- what its search found.
 -- pair-of-answer, search-answered: a search says the pair held, and is not refused.
 -- insert-reply, insert-map: an insert is refused or done as the map has it, and leaves the map with the new pair.
 -- delete-reply, delete-map: a delete is refused or done as the map has it, and leaves the map without the label.
 use mathlib.Core.List.{List, [], _∷_}
 use mathlib.Core.Option.{none}
-use mathlib.Core.Path.{_≡_, refl, sym, ap}
+use mathlib.Core.Path.{_≡_, refl, sym, ap, _∙_}
 use mathlib.Core.Bool.{Bool, true, false}
 use Prim.Native.Nat.{ℕ, suc, _≤_}
 use native.Mathlib.Omega.{arith}
@@ -17,16 +18,18 @@ use Rattle.types.specs.Answers.{refused}
 use Rattle.labels.specs.Labels.{Label, Comparison, smaller, same, larger, compareLabels}
 use Rattle.labels.proofs.Clashes.{clash}
 use Rattle.trees.specs.Trees.{Entry, size, labels}
+use Rattle.trees.specs.Charges.{unknown}
 use Rattle.trees.specs.Searches.{Held, absent, found, fullSearch}
-use Rattle.trees.specs.Plain.{State, Call, soughtBy, afterSearch, newEntry, insertIfRoom}
-use Rattle.trees.specs.Plain.{afterInsert, afterDelete, afterFullSearch, plainStep}
+use Rattle.trees.specs.Plain.{State, Call, soughtBy, wrongCharge, afterSearch, newNode, newEntry, insertIfRoom}
+use Rattle.trees.specs.Plain.{afterInsert, afterDelete, afterFullSearch, afterArguments, plainStep}
 use Rattle.trees.specs.Map.{Pair, lookupBy, lookup, removalBy, removal, mapOf}
 use Rattle.trees.specs.Valid.{ascends}
 use Rattle.trees.proofs.MapLaws.{pairIn, map-of-inserted, map-of-deleted}
 use Rattle.tables.specs.Written.{Memory}
 use Rattle.tables.specs.Steps.{Walk}
 use Rattle.tables.specs.Outcomes.{replyAnswer}
-use Rattle.tables.specs.Claims.{labelIn, pairSaid, Said, accepted, said, insertSaid, mapAfterInsert, deleteSaid}
+use Rattle.tables.specs.MapClaims.{labelIn, chargeIn, pairSaid, Said, accepted, said, insertSaid, mapAfterInsert}
+use Rattle.tables.specs.MapClaims.{deleteSaid}
 
 -- Without a label that is not held, a map is as it was.
 removal-of-missing : (x : Label) (m : List Pair) → lookup x m ≡ none → removal x m ≡ m
@@ -41,20 +44,28 @@ removal-of-missing x (p ∷ more) missing =
     by-comparison (same i) none-here further = clash cc
     by-comparison (larger i) none-here further = ap (λ (rest : List Pair). p ∷ rest) (further none-here)
 
--- A call with a label that fits is settled by what its search found.
-pub step-of-fitting : (capacity width : ℕ) (c : Call) (s : State)
+-- A call with a label that fits is settled by the test of its charge, and past it
+pub step-past-label : (capacity width : ℕ) (c : Call) (s : State)
     → 1 ≤ length (soughtBy c) → length (soughtBy c) ≤ width
-    → plainStep capacity width c s ≡ afterFullSearch capacity c (fullSearch (soughtBy c) (s .tree)) s
-step-of-fitting capacity width c s long short =
+    → plainStep capacity width c s ≡ afterArguments (wrongCharge c) capacity c s
+step-past-label capacity width c s long short =
     rw (ne-eqb (length (soughtBy c)) 0 (omega arith), le-ltb width (length (soughtBy c)) short)
 
+-- by what its search found.
+pub step-of-fitting : (capacity width : ℕ) (c : Call) (s : State)
+    → 1 ≤ length (soughtBy c) → length (soughtBy c) ≤ width → wrongCharge c ≡ false
+    → plainStep capacity width c s ≡ afterFullSearch capacity c (fullSearch (soughtBy c) (s .tree)) s
+step-of-fitting capacity width c s long short right =
+    step-past-label capacity width c s long short ∙ ap (λ (wrong : Bool). afterArguments wrong capacity c s) right
+
 module _ (s : State) (w : Walk) where
-  -- A search says the pair held, where the slot of the node found shows the node's label.
+  -- A search says the pair held, where the slot of the node found shows the node's label and its charge.
   pub pair-of-answer : (limits : Limits) (m : Memory) (h : Held) (below above : ℕ)
       → ((e : Entry) → h ≡ found e → labelIn limits m (e .slot) ≡ e .label)
+      → ((e : Entry) → h ≡ found e → chargeIn m (e .slot) ≡ e .charge)
       → pairSaid limits m (replyAnswer (afterSearch h below above s .reply) w) ≡ pairIn h
-  pair-of-answer limits m absent below above shows = refl
-  pair-of-answer limits m (found e) below above shows = rw (shows e refl)
+  pair-of-answer limits m absent below above shows has = refl
+  pair-of-answer limits m (found e) below above shows has = rw (shows e refl, has e refl)
 
   -- A search is not refused.
   pub search-answered : (h : Held) (below above number : ℕ)
@@ -89,19 +100,19 @@ module _ (s : State) (w : Walk) where
     -- An insert that is done leaves the map with the new pair; a refused one leaves the map.
     pub insert-map : ascends (labels (s .tree)) ≡ true → (h : Held)
         → mapOf (afterInsert capacity h x v s .state .tree)
-        ≡ mapAfterInsert (saidBy h) (record { label = x; value = v }) (mapOf (s .tree))
+        ≡ mapAfterInsert (saidBy h) (record { label = x; value = v; charge = unknown }) (mapOf (s .tree))
     insert-map ascending (found e) = refl
     insert-map ascending absent = by-room (leb capacity (size (s .tree)))
       where
         by-free : (freed : List ℕ) → mapOf (newEntry x v (s .tree) freed (s .high) .state .tree)
             ≡ mapAfterInsert (said (replyAnswer (newEntry x v (s .tree) freed (s .high) .reply) w))
-            (record { label = x; value = v }) (mapOf (s .tree))
-        by-free [] = map-of-inserted (s .tree) ascending (record { label = x; value = v; slot = suc (s .high) })
-        by-free (k ∷ freed) = map-of-inserted (s .tree) ascending (record { label = x; value = v; slot = k })
+            (record { label = x; value = v; charge = unknown }) (mapOf (s .tree))
+        by-free [] = map-of-inserted (s .tree) ascending (newNode x v (suc (s .high)))
+        by-free (k ∷ freed) = map-of-inserted (s .tree) ascending (newNode x v k)
 
         by-room : (full : Bool) → mapOf (insertIfRoom full x v s .state .tree)
             ≡ mapAfterInsert (said (replyAnswer (insertIfRoom full x v s .reply) w))
-            (record { label = x; value = v }) (mapOf (s .tree))
+            (record { label = x; value = v; charge = unknown }) (mapOf (s .tree))
         by-room true = refl
         by-room false = by-free (s .freed)
 

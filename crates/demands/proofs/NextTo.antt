@@ -7,9 +7,9 @@ use native.Mathlib.Omega.{arith}
 use Rattle.types.specs.declared.Limits.{Limits}
 use Rattle.types.specs.Answers.{absent as absent-with}
 use Rattle.labels.specs.Labels.{Label}
-use Rattle.labels.specs.Neighbours.{Neighbour, none-below, held, none-above}
+use Rattle.labels.specs.Neighbours.{Neighbour, none-below, none-above}
 use Rattle.labels.proofs.Clashes.{clash}
-use Rattle.trees.specs.Trees.{Entry, Tree, NodeOf, at-root, on-left, on-right, Side, left, right}
+use Rattle.trees.specs.Trees.{Entry, Tree, NodeOf, Side, left, right}
 use Rattle.trees.specs.Searches.{Held, absent, found, Search, fullSearch, slotOf}
 use Rattle.trees.specs.Heights.{Deepest}
 use Rattle.trees.specs.Plain.{State}
@@ -22,12 +22,12 @@ use Rattle.tables.specs.Written.{Memory, written, writtenTable, writtenStore}
 use Rattle.tables.specs.Steps.{ended, searchSteps}
 use Rattle.tables.specs.Outcomes.{Verdict, pass, refuse, ofMemory, ofLabel, answerBy, answerOf, walkAnswer}
 use Rattle.tables.specs.Outcomes.{searchOutcome, placesOf}
-use Rattle.tables.specs.Claims.{mapIn, labelIn}
-use Rattle.tables.proofs.Represents.{NodeHeld, Represents}
+use Rattle.tables.specs.MapClaims.{mapIn, labelIn, chargeIn}
+use Rattle.tables.proofs.Represents.{Represents}
 use Rattle.written.proofs.Slots.{written-represents}
 use Rattle.demands.specs.NextTo.{pairAt, NextTo, TrueNeighbours}
 use Rattle.demands.proofs.Searches.{search-of-written}
-use Rattle.demands.proofs.LabelsRead.{label-read}
+use Rattle.demands.proofs.LabelsRead.{label-read, charge-read, of-node}
 use Rattle.demands.proofs.OnSound.{of-sound, map-of-written}
 
 -- what an absent answer says of the search behind it
@@ -51,23 +51,20 @@ missed pass f n below above visits places says =
 missed (refuse number) f n below above visits places says = clash cc
 
 module _ (limits : Limits) (m : Memory) where
-  -- A slot shows the pair that its label and its value make.
+  -- A slot shows the pair that its label, its value and its charge make.
   pair-at : (k : ℕ) (pair : Pair) → 1 ≤ k → labelIn limits m k ≡ pair .label → rowAt (m .table) k .value ≡ pair .value
-      → pairAt limits m k ≡ some pair
-  pair-at zero pair low label value = absurd (omega arith)
-  pair-at (suc k) pair low label value = λ i. some (record { label = label i; value = value i })
+      → chargeIn m k ≡ pair .charge → pairAt limits m k ≡ some pair
+  pair-at zero pair low label value charge = absurd (omega arith)
+  pair-at (suc k) pair low label value charge = λ i.
+      some (record { label = label i; value = value i; charge = charge i })
 
-  -- The slot of a node that is held shows its pair.
-  held-shows : {p s : Neighbour} {l r : Tree} {e : Entry} → NodeHeld limits (m .table) (m .store) p l e r s
-      → pairAt limits m (e .slot) ≡ some (pairOf e)
-  held-shows {e = e} own = pair-at (e .slot) (pairOf e) (own .low) (label-read limits m own) (rw (own .row))
-
-  -- So does the slot of each node of a represented tree.
+  -- The slot of each node of a represented tree shows its pair.
   slot-shows : (p s : Neighbour) {t : Tree} {e : Entry} → NodeOf e t → Represents limits (m .table) (m .store) p s t
       → pairAt limits m (e .slot) ≡ some (pairOf e)
-  slot-shows p s at-root represented = held-shows (represented .0)
-  slot-shows p s (on-left {d = d} there) represented = slot-shows p (held (d .label)) there (represented .1)
-  slot-shows p s (on-right {d = d} there) represented = slot-shows (held (d .label)) s there (represented .2)
+  slot-shows =
+      of-node limits m (λ e. pairAt limits m (e .slot) ≡ some (pairOf e))
+      (λ p s l r e own. pair-at (e .slot) (pairOf e) (own .low) (label-read limits m own) (rw (own .row))
+      (charge-read limits m own))
 
   -- The slot of the node that a search passes last on a side shows its pair; 0 shows none.
   passed-shows : (side : Side) (x : Label) (t : Tree) → Represents limits (m .table) (m .store) none-below none-above t

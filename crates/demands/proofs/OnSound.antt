@@ -12,7 +12,8 @@ use Rattle.trees.specs.Map.{pairOf, mapOf}
 use Rattle.trees.specs.Valid.{Valid}
 use Rattle.trees.proofs.Entries.{length-of-entries}
 use Rattle.tables.specs.Written.{Memory, written}
-use Rattle.tables.specs.Claims.{Sound, mapIn}
+use Rattle.tables.specs.Claims.{Sound}
+use Rattle.tables.specs.MapClaims.{mapIn}
 use Rattle.written.proofs.Held.{height-within, sound-of-held, state-of-held}
 use Rattle.sounds.proofs.SoundIsWritten.{sound-is-written}
 

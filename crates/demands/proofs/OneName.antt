@@ -1,5 +1,5 @@
 -- Labels that are alike are one name to every call, on any memory.
--- one-name: search answers the same, delete answers and leaves the same, insert answers the same.
+-- one-name: search answers the same, delete and a charge set answer and leave the same, insert answers the same.
 use mathlib.Core.Bool.{Bool, true, false, _||_}
 use mathlib.Core.List.{List, [], _∷_}
 use mathlib.Core.Path.{_≡_, refl, _∙_}
@@ -10,16 +10,17 @@ use Rattle.types.specs.declared.Limits.{Limits}
 use Rattle.labels.specs.Labels.{Label, Alike}
 use Rattle.labels.proofs.Spellings.{compare-alike, compare-from-alike}
 use Rattle.trees.specs.Trees.{Entry, Tree, empty, node, size}
+use Rattle.trees.specs.Charges.{charged}
 use Rattle.trees.specs.Searches.{Held, absent, found, fullSearch}
 use Rattle.trees.specs.Updates.{deleted}
-use Rattle.trees.specs.Plain.{State, After, insert, delete, newEntry, insertIfRoom, afterInsert, afterDelete}
-use Rattle.trees.specs.Plain.{afterLength, plainStep}
+use Rattle.trees.specs.Plain.{State, After, insert, delete, set-charge, wrongCharge, newEntry, insertIfRoom}
+use Rattle.trees.specs.Plain.{afterInsert, afterDelete, afterCharge, afterArguments, afterLength, plainStep}
 use Rattle.tables.specs.Words.{rowAt, entryAt, rootLink}
 use Rattle.tables.specs.Steps.{Step, go-left, go-right, stop, Walk, broken, stepAt, isBad, walkBy, steps, searchSteps}
 use Rattle.tables.specs.Written.{Memory}
 use Rattle.tables.specs.Sound.{stateOf}
 use Rattle.tables.specs.Outcomes.{Verdict, pass, refuse, ofMemory, ofLabel, ofTable, outcomeBy, settled}
-use Rattle.tables.specs.Outcomes.{searchOutcome, updateOutcome, insertOutcome, deleteOutcome}
+use Rattle.tables.specs.Outcomes.{searchOutcome, updateOutcome, insertOutcome, deleteOutcome, chargeOutcome}
 use Rattle.demands.specs.Spellings.{OneName}
 
 -- a walk from a node, by what its sons give
@@ -41,7 +42,7 @@ module _ {x y : Label} (alike : Alike x y) where
   step-alike c zero d p s = rw (compare-from-alike alike c d)
   step-alike c (suc side) d p s = rw (compare-from-alike alike c d)
 
-  -- the full search, and the tree without the label
+  -- the full search, the tree without the label, and with its charge set
   search-alike : (t : Tree) → fullSearch x t ≡ fullSearch y t
   search-alike empty = refl
   search-alike (node l e r) = rw (compare-alike alike (e .label), search-alike l, search-alike r)
@@ -49,6 +50,10 @@ module _ {x y : Label} (alike : Alike x y) where
   deleted-alike : (t : Tree) → deleted x t ≡ deleted y t
   deleted-alike empty = refl
   deleted-alike (node l e r) = rw (compare-alike alike (e .label), deleted-alike l, deleted-alike r)
+
+  charged-alike : (n : ℕ) (t : Tree) → charged x n t ≡ charged y n t
+  charged-alike n empty = refl
+  charged-alike n (node l e r) = rw (compare-alike alike (e .label), charged-alike n l, charged-alike n r)
 
   module _ (limits : Limits) (table store : List ℕ) where
     -- the walk
@@ -77,6 +82,11 @@ module _ {x y : Label} (alike : Alike x y) where
   after-delete-alike absent s = refl
   after-delete-alike (found e) s = rw (deleted-alike (s .tree))
 
+  -- a charge set, by what is found
+  after-charge-alike : (h : Held) (n : ℕ) (s : State) → afterCharge h x n s ≡ afterCharge h y n s
+  after-charge-alike absent n s = refl
+  after-charge-alike (found e) n s = rw (charged-alike n (s .tree))
+
   -- of an insert, what it replies
   reply-of-new : (v : ℕ) (t : Tree) (freed : List ℕ) (high : ℕ)
       → newEntry x v t freed high .reply ≡ newEntry y v t freed high .reply
@@ -102,6 +112,20 @@ module _ {x y : Label} (alike : Alike x y) where
         go true long = refl
         go false true = refl
         go false false = rw (search-alike (s .tree)) (after-delete-alike (fullSearch y (s .tree) .result) s)
+
+    charge-plain : (n : ℕ) → plainStep capacity width (set-charge x n) s ≡ plainStep capacity width (set-charge y n) s
+    charge-plain n = rw (alike .lengths) (go (eqb (length y) 0) (ltb width (length y)))
+      where
+        by-charge : (wrong : Bool)
+            → afterArguments wrong capacity (set-charge x n) s ≡ afterArguments wrong capacity (set-charge y n) s
+        by-charge true = refl
+        by-charge false = rw (search-alike (s .tree)) (after-charge-alike (fullSearch y (s .tree) .result) n s)
+
+        go : (none long : Bool)
+            → afterLength none long capacity (set-charge x n) s ≡ afterLength none long capacity (set-charge y n) s
+        go true long = refl
+        go false true = refl
+        go false false = by-charge (wrongCharge (set-charge x n))
 
     insert-plain : (v : ℕ)
         → plainStep capacity width (insert x v) s .reply ≡ plainStep capacity width (insert y v) s .reply
@@ -134,9 +158,15 @@ module _ (limits : Limits) (table store : List ℕ) (x y : Label) (alike : Alike
 
 -- Labels that are alike are one name.
 pub one-name : (limits : Limits) → OneName limits
-unfolding searchOutcome updateOutcome deleteOutcome
+unfolding searchOutcome updateOutcome deleteOutcome chargeOutcome
 one-name limits = record {
   searches = λ table store x y alike. rw (alike .lengths, search-steps-alike alike limits table store);
+  charges = λ table store x y charge alike.
+      rw (
+        charge-plain alike (limits .slots) (limits .width) (stateOf limits table store) charge,
+        search-steps-alike alike limits table store,
+        alike .lengths,
+      );
   deletes = λ table store x y alike.
       rw (
         delete-plain alike (limits .slots) (limits .width) (stateOf limits table store),

@@ -11,6 +11,7 @@ use Rattle.types.specs.Sizes.{tableLength, storeLength}
 use Rattle.labels.proofs.Numbers.{Eqb, eq-yes, eq-no, eqb-view}
 use Rattle.tables.specs.Outcomes.{Verdict, refuse, line, ofMemory, searchOutcome, checkOutcome, viewOutcome, viewPart}
 use Rattle.tables.specs.Outcomes.{listingOutcome, layoutOutcome, updateOutcome, insertOutcome, deleteOutcome}
+use Rattle.tables.specs.Outcomes.{chargeOutcome}
 use Rattle.demands.specs.OtherMemory.{AllRefused}
 
 module _ (limits : Limits) (table store : List ℕ) (other : length table ≡ tableLength limits → ⊥) where
@@ -26,12 +27,13 @@ module _ (limits : Limits) (table store : List ℕ) (other : length table ≡ ta
   -- Each call refuses a table of another length by 1.
   pub wrong-table-refused : AllRefused limits table store
   unfolding searchOutcome checkOutcome viewOutcome viewPart listingOutcome layoutOutcome updateOutcome insertOutcome
-      deleteOutcome
+      deleteOutcome chargeOutcome
   wrong-table-refused = record {
     layout = rw first-refused;
     search = λ x. rw first-refused;
     insert = λ x value. rw first-refused;
     delete = λ x. rw first-refused;
+    charge = λ x charge. rw first-refused;
     check = rw first-refused;
     listing = λ list. rw first-refused;
     view = λ k. rw first-refused;

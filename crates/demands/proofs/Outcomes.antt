@@ -17,14 +17,15 @@ use Rattle.labels.specs.Labels.{Label}
 use Rattle.trees.specs.Trees.{size}
 use Rattle.trees.specs.Heights.{Deepest}
 use Rattle.trees.specs.Searches.{Held, absent, found, Search, fullSearch, slotOf}
-use Rattle.trees.specs.Plain.{State, Call, search, insert, delete, soughtBy, afterSearch, newEntry, insertIfRoom}
-use Rattle.trees.specs.Plain.{afterInsert, afterDelete}
-use Rattle.trees.specs.Plain.{afterFullSearch, afterLength, plainStep}
+use Rattle.trees.specs.Plain.{State, Call, search, insert, delete, set-charge, soughtBy, wrongCharge, After}
+use Rattle.trees.specs.Plain.{afterSearch, newEntry, insertIfRoom, afterInsert, afterDelete, afterCharge, afterFullSearch}
+use Rattle.trees.specs.Plain.{afterArguments, afterLength, plainStep}
 use Rattle.trees.specs.Valid.{Valid}
 use Rattle.tables.specs.Written.{Memory, written, writtenTable, writtenStore}
 use Rattle.tables.specs.Steps.{Walk, ended, searchSteps}
-use Rattle.tables.specs.Outcomes.{Verdict, pass, line, ofMemory, answerBy, answerOf, walkAnswer, searchOutcome, Outcome}
-use Rattle.tables.specs.Outcomes.{outcomeBy, visitsOf, placesOf, replyAnswer, memoryAfter, settled, updateOutcome}
+use Rattle.tables.specs.Outcomes.{Verdict, pass, line, ofMemory, ofCharge, answerBy, answerOf, walkAnswer}
+use Rattle.tables.specs.Outcomes.{searchOutcome, Outcome, outcomeBy, visitsOf, placesOf, replyAnswer, memoryAfter}
+use Rattle.tables.specs.Outcomes.{settled, updateOutcome}
 use Rattle.written.proofs.Rows.{length-of-written-table}
 use Rattle.written.proofs.Parts.{length-of-written-store}
 use Rattle.written.proofs.Readings.{state-of-written}
@@ -96,6 +97,13 @@ module _ (limits : Limits) (s : State) where
   memory-of-delete x absent = refl
   memory-of-delete x (found e) = refl
 
+  -- So does a charge set.
+  memory-of-charge : (x : Label) (n : ℕ) (h : Held)
+      → memoryAfter limits Out (afterCharge h x n s .reply) (afterCharge h x n s .state)
+      ≡ written limits (afterCharge h x n s .state)
+  memory-of-charge x n absent = refl
+  memory-of-charge x n (found e) = refl
+
   -- So does each call, by what its search found.
   memory-of-call : (c : Call) (f : Search)
       → memoryAfter limits Out (afterFullSearch (limits .slots) c f s .reply)
@@ -104,27 +112,31 @@ module _ (limits : Limits) (s : State) where
   memory-of-call (search x) f = memory-of-search (f .result) (slotOf (f .below)) (slotOf (f .above))
   memory-of-call (insert x v) f = memory-of-insert x v (f .result)
   memory-of-call (delete x) f = memory-of-delete x (f .result)
+  memory-of-call (set-charge x n) f = memory-of-charge x n (f .result)
 
-  -- what an update answers and leaves, by the tests of the label's length
-  abbrev afterTests : Call → Walk → (empty long : Bool) → Outcome
-  afterTests c w empty long =
-      record {
-        answer = replyAnswer (afterLength empty long (limits .slots) c s .reply) w;
-        memory = written limits (afterLength empty long (limits .slots) c s .state);
-      }
+  -- what a step of the plain tree answers and leaves
+  abbrev after : Walk → After → Outcome
+  after w a = record { answer = replyAnswer (a .reply) w; memory = written limits (a .state) }
 
-  -- An update is refused by the tests, or settled by the plain tree's step.
-  outcome-by-tests : (c : Call) (w : Walk) (empty long : Bool)
-      → outcomeBy (line empty 3 (line long 4 pass)) Out
-      (settled limits Out w (afterLength empty long (limits .slots) c s))
-      ≡ afterTests c w empty long
-  outcome-by-tests c w true long = refl
-  outcome-by-tests c w false true = refl
-  outcome-by-tests c w false false = λ i.
+  -- An update is refused by the test of its charge, or settled by the plain tree's step.
+  outcome-by-charge : (c : Call) (w : Walk) (wrong : Bool)
+      → outcomeBy (line wrong 24 pass) Out (settled limits Out w (afterArguments wrong (limits .slots) c s))
+      ≡ after w (afterArguments wrong (limits .slots) c s)
+  outcome-by-charge c w true = refl
+  outcome-by-charge c w false = λ i.
       record {
-        answer = replyAnswer (afterLength false false (limits .slots) c s .reply) w;
+        answer = replyAnswer (afterArguments false (limits .slots) c s .reply) w;
         memory = memory-of-call c (fullSearch (soughtBy c) (s .tree)) i;
       }
+
+  -- So it is by the tests of its label.
+  outcome-by-tests : (c : Call) (w : Walk) (empty long : Bool)
+      → outcomeBy (line empty 3 (line long 4 (ofCharge c pass))) Out
+      (settled limits Out w (afterLength empty long (limits .slots) c s))
+      ≡ after w (afterLength empty long (limits .slots) c s)
+  outcome-by-tests c w true long = refl
+  outcome-by-tests c w false true = refl
+  outcome-by-tests c w false false = outcome-by-charge c w (wrongCharge c)
 
   -- A search is refused by the tests, or answered by its walk.
   answer-by-tests : (x : Label) (w : Walk) (empty long : Bool)

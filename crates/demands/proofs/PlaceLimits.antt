@@ -24,7 +24,8 @@ use Rattle.trees.proofs.MapLaws.{keys-of-map}
 use Rattle.tables.specs.Written.{written, writtenTable, writtenStore}
 use Rattle.tables.specs.Steps.{Walk, searchSteps}
 use Rattle.tables.specs.Outcomes.{visitsOf, replyAnswer}
-use Rattle.tables.specs.Claims.{labelsIn, SearchAgrees, callOutcome}
+use Rattle.tables.specs.Claims.{SearchAgrees, callOutcome}
+use Rattle.tables.specs.MapClaims.{labelsIn}
 use Rattle.demands.specs.PlaceLimits.{ByteLimit, WalkWithin, AnswerWithin, SearchesWithin, BothZero}
 use Rattle.demands.specs.PlaceLimits.{SharedLimit, LengthLimit}
 use Rattle.demands.proofs.Searches.{search-of-written}

@@ -21,7 +21,7 @@ use Rattle.tables.specs.Written.{Memory}
 use Rattle.tables.specs.Steps.{Walk, searchSteps}
 use Rattle.tables.specs.Sound.{stateOf}
 use Rattle.tables.specs.Outcomes.{Verdict, pass, refuse, Outcome, outcomeBy, Listing, listingBy}
-use Rattle.tables.specs.Outcomes.{ofMemory, ofLabel, ofTable, ofList, replyAnswer, memoryAfter, settled}
+use Rattle.tables.specs.Outcomes.{ofMemory, ofLabel, ofCharge, ofTable, ofList, replyAnswer, memoryAfter, settled}
 use Rattle.tables.specs.Outcomes.{layoutOutcome, updateOutcome, listingOutcome}
 use Rattle.cases.specs.Cases.{a}
 use Rattle.demands.specs.Trials.{UpdateVersion, MeetsUpdate, lent}
@@ -102,7 +102,7 @@ unfolding updateOutcome
 update-stays c table store number =
     let steps = searchSteps hub table store (soughtBy c) in
     let step = plainStep (hub .slots) (hub .width) c (stateOf hub table store) in
-    outcome-stays (ofMemory hub table store (ofLabel hub (soughtBy c) (ofTable hub table store pass)))
+    outcome-stays (ofMemory hub table store (ofLabel hub (soughtBy c) (ofCharge c (ofTable hub table store pass))))
     (lent table store) (settled hub (lent table store) steps step) number
     (reply-stays (lent table store) steps (step .reply) (step .state) number)
 

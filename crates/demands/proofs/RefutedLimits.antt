@@ -17,7 +17,8 @@ use Rattle.tables.specs.Written.{writtenTable, writtenStore}
 use Rattle.tables.specs.Steps.{isBad, Walk, walkFromRoot, searchSteps}
 use Rattle.tables.specs.Sound.{wordsAndBytes, counted, soundAs, sound, stateOf}
 use Rattle.tables.specs.Outcomes.{visitsOf, placesOf, searchOutcome, layoutOutcome, updateOutcome}
-use Rattle.tables.specs.Claims.{labelsIn, LabelFits}
+use Rattle.tables.specs.Claims.{LabelFits}
+use Rattle.tables.specs.MapClaims.{labelsIn}
 use Rattle.cases.specs.Cases.{a, b, d, roster, three}
 use Rattle.demands.specs.PlaceLimits.{ByteLimit, WalkWithin, WalksWithin, CasesAtLimit, NoSmallerLimit}
 use Rattle.demands.specs.LimitTrials.{oneLess, mostSame, wholeStep}

@@ -1,5 +1,6 @@
 -- Trial versions of insert and delete that do not meet their contract, each refuted after a small list of calls, at the
 -- hub's limits.
+-- outcome, reply: what a version that meets the contract does after calls.
 -- fixed-insert-fails, refused-inserts-fail, full-at-once-fails: inserts that answer at once.
 -- fixed-delete-fails, refused-deletes-fail, not-held-at-once-fails: deletes that answer at once.
 -- idle-insert-fails, feigned-inserts-fail: inserts that leave the memory as it was, at once or after the first.
@@ -20,7 +21,7 @@ use Rattle.tables.specs.Words.{labelsHeld, rowAt}
 use Rattle.tables.specs.Written.{Memory}
 use Rattle.tables.specs.Steps.{searchSteps}
 use Rattle.tables.specs.Outcomes.{Outcome}
-use Rattle.tables.specs.Claims.{labelIn}
+use Rattle.tables.specs.MapClaims.{labelIn}
 use Rattle.cases.specs.Cases.{a, b, c, three}
 use Rattle.demands.specs.Trials.{UpdateVersion, MeetsUpdate, Count, countIn, countOf}
 use Rattle.demands.specs.UpdateTrials.{InsertsAnswer, InsertsCount, DeletesCount, DeletesAnswer, InsertsIdle}
@@ -34,11 +35,12 @@ use Rattle.demands.proofs.RefutedSearches.{no-one-count}
 
 module _ (f : UpdateVersion) (meets : MeetsUpdate f) where
   -- what a version that meets the contract does after calls
-  outcome : (calls : List Call) (k : Call) → f k (after calls .table) (after calls .store) ≡ next calls k
+  pub outcome : (calls : List Call) (k : Call) → f k (after calls .table) (after calls .store) ≡ next calls k
   outcome calls k = meets k (after calls .table) (after calls .store)
 
   -- the answer that it gives
-  reply : (calls : List Call) (k : Call) → f k (after calls .table) (after calls .store) .answer ≡ next calls k .answer
+  pub reply : (calls : List Call) (k : Call)
+      → f k (after calls .table) (after calls .store) .answer ≡ next calls k .answer
   reply calls k = ap (λ (o : Outcome). o .answer) (outcome calls k)
 
   -- the table that it leaves

@@ -15,7 +15,7 @@ use Rattle.labels.specs.Shared.{sharedBytes}
 use Rattle.labels.proofs.Shared.{place-after-shared}
 use Rattle.trees.specs.Trees.{Entry, empty, node}
 use Rattle.trees.specs.Heights.{Deepest}
-use Rattle.trees.specs.Plain.{State}
+use Rattle.trees.specs.Plain.{State, newNode}
 use Rattle.trees.specs.Valid.{Valid}
 use Rattle.tables.specs.Words.{rootLink}
 use Rattle.tables.specs.Written.{written, writtenTable, writtenStore}
@@ -33,7 +33,7 @@ use Rattle.demands.proofs.PlaceLimits.{labels-of-written}
 
 -- the node of a label that alone is held, and the state
 abbrev entry : Label → Entry
-entry y = record { label = y; value = 0; slot = 1 }
+entry y = newNode y 0 1
 
 abbrev only : Label → State
 only y = record { tree = node empty (entry y) empty; freed = []; high = 1 }
@@ -60,6 +60,7 @@ module _ (limits : Limits) (deepest : Deepest (limits .slots) (limits .depth)) (
     balanced = refl;
     ascending = refl;
     fitting = rw (le-leb 1 (length y) (fits .some), le-leb (length y) (limits .width) (fits .short));
+    charges-fit = refl;
     allotted = refl;
     within = some;
   }

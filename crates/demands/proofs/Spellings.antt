@@ -14,6 +14,7 @@ use Rattle.types.specs.Answers.{Answer, found, absent, updated, listed, done, r
 use Rattle.labels.specs.Labels.{Label}
 use Rattle.labels.proofs.Clashes.{clash}
 use Rattle.trees.specs.Trees.{entries, size, slots}
+use Rattle.trees.specs.Charges.{unknown}
 use Rattle.trees.specs.Heights.{Deepest}
 use Rattle.trees.specs.Plain as plain
 use Rattle.trees.specs.Plain.{State, Call, After, Reply, soughtBy, plainStep}
@@ -26,9 +27,10 @@ use Rattle.trees.proofs.Views.{both-true}
 use Rattle.tables.specs.Written.{Memory}
 use Rattle.tables.specs.Steps.{Walk, searchSteps}
 use Rattle.tables.specs.Sound.{stateOf}
-use Rattle.tables.specs.Outcomes.{Verdict, pass, refuse, ofMemory, ofLabel, ofTable, outcomeBy, replyAnswer}
+use Rattle.tables.specs.Outcomes.{Verdict, pass, refuse, ofMemory, ofLabel, ofCharge, ofTable, outcomeBy, replyAnswer}
 use Rattle.tables.specs.Outcomes.{memoryAfter, settled, updateOutcome, insertOutcome, deleteOutcome}
-use Rattle.tables.specs.Claims.{Sound, mapIn, LabelFits, accepted, refused-by, said, UpdatesMap}
+use Rattle.tables.specs.Claims.{Sound, LabelFits}
+use Rattle.tables.specs.MapClaims.{mapIn, accepted, refused-by, said, UpdatesMap}
 use Rattle.demands.specs.Spellings.{SpellingStays}
 use Rattle.demands.proofs.MapSpellings.{lookup-alike, lookup-removed, removal-shorter, lookup-inserted}
 use Rattle.demands.proofs.OnSound.{of-sound, count-of-map, map-of-written}
@@ -65,7 +67,8 @@ pub refused-leaves : (limits : Limits) (c : Call) (table store : List ℕ) (n : 
     ≡ record { answer = refused n; memory = record { table = table; store = store } }
 unfolding updateOutcome
 refused-leaves limits c table store n says =
-    outcome-refused (ofMemory limits table store (ofLabel limits (soughtBy c) (ofTable limits table store pass))) limits
+    outcome-refused
+    (ofMemory limits table store (ofLabel limits (soughtBy c) (ofCharge c (ofTable limits table store pass)))) limits
     (record { table = table; store = store }) (searchSteps limits table store (soughtBy c))
     (plainStep (limits .slots) (limits .width) c (stateOf limits table store)) n says
 
@@ -123,10 +126,10 @@ module _ (limits : Limits) (deepest : Deepest (limits .slots) (limits .depth)) w
     -- it is held again, in the new spelling
     held-anew : (v : ℕ)
         → lookup x (mapIn limits (updateOutcome limits (plain.insert x v) (left .table) (left .store) .memory))
-        ≡ some (record { label = x; value = v })
+        ≡ some (record { label = x; value = v; charge = unknown })
     held-anew v =
         rw (updates-left v .insert-leaves, says-new v)
-        (lookup-inserted (record { label = x; value = v }) (mapIn limits left) missing)
+        (lookup-inserted (record { label = x; value = v; charge = unknown }) (mapIn limits left) missing)
 
   -- The spelling first stored stays.
   pub spelling-stays : SpellingStays limits

@@ -4,8 +4,10 @@ pub mod Spellings
 pub mod Ties
 pub mod NextTo
 pub mod PlaceLimits
+pub mod Charges
 pub mod LimitTrials
 pub mod Trials
 pub mod NeighbourTrials
 pub mod UpdateTrials
 pub mod CallTrials
+pub mod ChargeTrials

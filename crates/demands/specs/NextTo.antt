@@ -10,12 +10,18 @@ use Rattle.trees.specs.Map.{Pair, Nearest}
 use Rattle.tables.specs.Words.{rowAt}
 use Rattle.tables.specs.Written.{Memory}
 use Rattle.tables.specs.Outcomes.{searchOutcome}
-use Rattle.tables.specs.Claims.{Sound, mapIn, labelIn}
+use Rattle.tables.specs.Claims.{Sound}
+use Rattle.tables.specs.MapClaims.{mapIn, labelIn, chargeIn}
 
 -- the pair that a slot shows: "0 for none"
 abbrev pub pairAt : Limits → Memory → ℕ → Option Pair
 pairAt limits m zero = none
-pairAt limits m (suc k) = some (record { label = labelIn limits m (suc k); value = rowAt (m .table) (suc k) .value })
+pairAt limits m (suc k) =
+    some (record {
+      label = labelIn limits m (suc k);
+      value = rowAt (m .table) (suc k) .value;
+      charge = chargeIn m (suc k);
+    })
 
 -- the slots show the greatest smaller and the least larger pair of the map
 pub record NextTo (limits : Limits) (m : Memory) (x : Label) (below above : ℕ) : Type 0 where

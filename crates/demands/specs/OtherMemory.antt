@@ -8,7 +8,7 @@ use Rattle.types.specs.Sizes.{tableLength}
 use Rattle.types.specs.Answers.{refused}
 use Rattle.labels.specs.Labels.{Label}
 use Rattle.tables.specs.Outcomes.{Outcome, Listing, layoutOutcome, searchOutcome, insertOutcome, deleteOutcome}
-use Rattle.tables.specs.Outcomes.{checkOutcome, listingOutcome, viewOutcome, viewPart}
+use Rattle.tables.specs.Outcomes.{chargeOutcome, checkOutcome, listingOutcome, viewOutcome, viewPart}
 
 -- refused by 1, with all lent memory as it was
 abbrev pub wrongTable : (table store : List ℕ) → Outcome
@@ -18,12 +18,13 @@ wrongTable table store = record { answer = refused 1; memory = record { table = 
 abbrev pub wrongTableFor : (list : List ℕ) → Listing
 wrongTableFor list = record { answer = refused 1; list = list }
 
--- what each of the eight calls says and leaves
+-- what each call says and leaves
 pub record AllRefused (limits : Limits) (table store : List ℕ) : Type 0 where
   pub layout : layoutOutcome limits table store ≡ wrongTable table store
   pub search : (x : Label) → searchOutcome limits table store x ≡ refused 1
   pub insert : (x : Label) (value : ℕ) → insertOutcome limits table store x value ≡ wrongTable table store
   pub delete : (x : Label) → deleteOutcome limits table store x ≡ wrongTable table store
+  pub charge : (x : Label) (charge : ℕ) → chargeOutcome limits table store x charge ≡ wrongTable table store
   pub check : checkOutcome limits table store ≡ refused 1
   pub listing : (list : List ℕ) → listingOutcome limits table store list ≡ wrongTableFor list
   pub view : (k : ℕ) → viewOutcome limits table store k ≡ refused 1

@@ -12,7 +12,8 @@ use Rattle.trees.specs.Plain.{Call, insert, soughtBy}
 use Rattle.tables.specs.Written.{Memory}
 use Rattle.tables.specs.Steps.{Walk, broken, searchSteps}
 use Rattle.tables.specs.Outcomes.{visitsOf, placesOf}
-use Rattle.tables.specs.Claims.{Sound, labelsIn, LabelFits, callOutcome}
+use Rattle.tables.specs.Claims.{Sound, LabelFits, callOutcome}
+use Rattle.tables.specs.MapClaims.{labelsIn}
 use Rattle.cases.specs.Cases.{a, d, roster, afterCalls, laidOut}
 
 -- a limit that reads labels alone: how many bytes it allows for a sought label, with these held
@@ -39,7 +40,7 @@ WalksWithin limits bytes walk =
     (m : Memory) → Sound limits m → (x : Label)
     → WalkWithin (bytes x (labelsIn limits m)) (walk (m .table) (m .store) x)
 
--- so are the searches of search, insert and delete, by the labels held before the call: the steps of those refused too,
+-- so are the searches of every call, by the labels held before it: the steps of those refused too,
 -- and the counts of every answer
 pub record SearchesWithin (limits : Limits) (bytes : ByteLimit) : Type 0 where
   pub steps : WalksWithin limits bytes (searchSteps limits)

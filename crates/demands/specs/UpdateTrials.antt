@@ -11,7 +11,7 @@ use Rattle.tables.specs.Words.{rootLink, labelsHeld, rowAt, entryAt}
 use Rattle.tables.specs.Written.{Memory}
 use Rattle.tables.specs.Steps.{Step, go-left, go-right, stop, stepAt}
 use Rattle.tables.specs.Outcomes.{searchOutcome}
-use Rattle.tables.specs.Claims.{labelIn}
+use Rattle.tables.specs.MapClaims.{labelIn}
 use Rattle.demands.specs.Trials.{UpdateVersion, lent, Fair, Count, CountGives}
 
 -- "one fixed answer": of inserts, and of deletes

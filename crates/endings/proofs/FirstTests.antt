@@ -1,5 +1,5 @@
 -- What the tests before an update decide of it.
--- `refused-insert`, `refused-delete`: a refused call.
+-- `refused-by`, `refused-insert`, `refused-delete`: a refused call.
 -- `ready`: past the tests the memory is sound and the label fits.
 use mathlib.Core.List.{List}
 use mathlib.Core.Bool.{not}
@@ -10,8 +10,6 @@ use Rattle.types.specs.declared.Limits.{Limits}
 use Rattle.types.specs.declared.Refusal.{Refusal}
 use Rattle.types.specs.Answers.{refused, refusalNumber}
 use Rattle.labels.specs.Labels.{Label}
-use Rattle.trees.specs.Plain as plain
-use Rattle.trees.specs.Plain.{Call}
 use Rattle.tables.specs.Sound.{sound}
 use Rattle.tables.specs.Outcomes.{Verdict, pass, refuse, ofLabel, ofTable, Outcome, outcomeBy}
 use Rattle.tables.specs.Outcomes.{updateOutcome, insertOutcome, deleteOutcome}
@@ -23,26 +21,25 @@ use Rattle.lengths.proofs.FirstLines.{line-passed, sizes-passed, label-passed}
 use Rattle.verdicts.specs.Verdicts.{updateVerdict}
 use Rattle.endings.specs.Ready.{EditsFit, Ready}
 
--- What the tests before the map say of an update is what they say of its label.
 module _ (limits : Limits) (table store : List ℕ) where
   -- An update that its first tests refuse gives the number, and leaves all lent memory.
-  refused-by : (c : Call) (verdict : Verdict) (settled : Outcome) (number : ℕ) → refuse number ≡ verdict
+  pub refused-by : (verdict : Verdict) (settled : Outcome) (number : ℕ) → refuse number ≡ verdict
       → Gives (outcomeBy verdict (record { table = table; store = store }) settled) (refused number) table store
-  refused-by c verdict settled number first = rw (← first) (record { answer = refl; table = refl; store = refl })
+  refused-by verdict settled number first = rw (← first) (record { answer = refl; table = refl; store = refl })
 
   pub refused-insert : (x : Label) (value : ℕ) (early : Early) (r : Refusal)
       → earlySays early ≡ updateVerdict limits table store x → early ≡ Refused r
       → Gives (insertOutcome limits table store x value) (refused (refusalNumber r)) table store
   unfolding insertOutcome updateOutcome updateVerdict
   refused-insert x value early r first refuses =
-      refused-by (plain.insert x value) _ _ (refusalNumber r) (sym (ap earlySays refuses) ∙ first)
+      refused-by _ _ (refusalNumber r) (sym (ap earlySays refuses) ∙ first)
 
   pub refused-delete : (x : Label) (early : Early) (r : Refusal)
       → earlySays early ≡ updateVerdict limits table store x → early ≡ Refused r
       → Gives (deleteOutcome limits table store x) (refused (refusalNumber r)) table store
   unfolding deleteOutcome updateOutcome updateVerdict
   refused-delete x early r first refuses =
-      refused-by (plain.delete x) _ _ (refusalNumber r) (sym (ap earlySays refuses) ∙ first)
+      refused-by _ _ (refusalNumber r) (sym (ap earlySays refuses) ∙ first)
 
 -- Past the tests the memory is sound and the label fits.
 pub ready : (limits : Limits) (table store : List ℕ) (x : Label) → EditsFit limits → (early : Early)

@@ -1,4 +1,5 @@
 -- What insert and delete give and leave where they end, once their refusals are past.
+-- `gives-outcome`: a defined outcome is given. `traces`: the trace is the way of the search.
 -- `insert-held`, `insert-full`, `insert-new`: an insert. `delete-missing`, `delete-gone`: a delete.
 use mathlib.Core.List.{List}
 use mathlib.Core.Path.{_≡_, sym, ap}
@@ -25,7 +26,7 @@ use Rattle.endings.specs.Ready.{Ready}
 use Rattle.endings.proofs.Lands.{InsertLands, insert-lands, DeleteLands, delete-lands, Traces}
 
 -- A defined outcome is given where answer, table and store are its own.
-gives-outcome : {o : Outcome} (answer : Answer) (table store : List ℕ)
+pub gives-outcome : {o : Outcome} (answer : Answer) (table store : List ℕ)
     → o ≡ record { answer = answer; memory = record { table = table; store = store } } → Gives o answer table store
 gives-outcome answer table store same = record {
   answer = sym (ap (λ (o : Outcome). o .answer) same);
@@ -39,7 +40,7 @@ module _ (limits : Limits) (table store : List ℕ) (x : Label) (ready : Ready l
   Lent = record { table = table; store = store }
 
   -- The trace is the way of the search, whatever tree the memory holds.
-  traces : Traces limits (ready .limits-fit .deepest) x (ready .label) trace Lent
+  pub traces : Traces limits (ready .limits-fit .deepest) x (ready .label) trace Lent
   traces s valid out = rw is (way-in-written (ap (λ (m : Memory). m .table) out) (ap (λ (m : Memory). m .store) out))
     where
       way-in-written : table ≡ written limits s .table → store ≡ written limits s .store

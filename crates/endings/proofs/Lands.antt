@@ -1,5 +1,6 @@
 -- Where an update of a sound table ends, by its trace: what the outcome is there.
 -- InsertLands, insert-lands: refused by 7 or 9, or done. DeleteLands, delete-lands: refused by 8, or done.
+-- missed: where the trace found nothing, the label is absent. Traces: the trace is the way of the search.
 use mathlib.Core.List.{List, _∷_}
 use mathlib.Core.Path.{_≡_, refl, sym, ap, _∙_}
 use Prim.Native.Nat.{ℕ, _≤_, _<_}
@@ -83,7 +84,7 @@ module _ (limits : Limits) (deepest : Deepest (limits .slots) (limits .depth)) (
     insert-settled value h result =
         update-outcome limits s deepest valid (plain.insert x value)
         ∙ ap outcomeOf (step-of-fitting (limits .slots) (limits .width) (plain.insert x value) s
-        (fits .some) (fits .short)
+        (fits .some) (fits .short) refl
         ∙ ap (λ (h : Held). afterInsert (limits .slots) h x value s) result)
 
     -- So is a delete.
@@ -93,6 +94,7 @@ module _ (limits : Limits) (deepest : Deepest (limits .slots) (limits .depth)) (
     delete-settled h result =
         update-outcome limits s deepest valid (plain.delete x)
         ∙ ap outcomeOf (step-of-fitting (limits .slots) (limits .width) (plain.delete x) s (fits .some) (fits .short)
+        refl
         ∙ ap (λ (h : Held). afterDelete h x s) result)
 
     -- A node that was found has a slot of at least 1.
@@ -100,7 +102,8 @@ module _ (limits : Limits) (deepest : Deepest (limits .slots) (limits .depth)) (
     found-slot-positive e there = slot-of-valid limits s valid (e .slot) (slot-of-found x (s .tree) there) .0
 
     -- where the trace found nothing, the label is absent; where it found a slot, the slot is the node's
-    missed : (h : Held) → fullSearch x (s .tree) .result ≡ h → Ends x (s .tree) h trace → trace .found ≡ 0 → h ≡ absent
+    pub missed : (h : Held) → fullSearch x (s .tree) .result ≡ h → Ends x (s .tree) h trace → trace .found ≡ 0
+        → h ≡ absent
     missed absent result ends none = refl
     missed (found e) result ends none = absurd (omega (arith, found-slot-positive e result))
 

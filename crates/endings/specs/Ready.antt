@@ -1,4 +1,4 @@
--- What insert and delete take for granted past their first tests.
+-- What an update takes for granted past its first tests: an insert, a delete, a charge set.
 use mathlib.Core.List.{List}
 use Prim.Native.Nat.{ℕ}
 use Rattle.types.specs.declared.Limits.{Limits}

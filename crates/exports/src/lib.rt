@@ -7,7 +7,7 @@ use types::DoneAnswer;
 ghost use mathlib.Core.Path.{_≡_};
 ghost use Rattle.types.specs.Sizes.{hub};
 ghost use Rattle.tables.specs.Outcomes.{layoutOutcome, searchOutcome, insertOutcome, deleteOutcome, checkOutcome};
-ghost use Rattle.tables.specs.Outcomes.{listingOutcome, viewOutcome};
+ghost use Rattle.tables.specs.Outcomes.{chargeOutcome, listingOutcome, viewOutcome};
 ghost use Rattle.packs.specs.Packed.{packed};
 ghost use Rattle.exported.specs.Given.{packedView, Packs, PacksList};
 
@@ -52,6 +52,21 @@ pub extern "C" fn strap_delete(table: &mut [u16], store: &mut [u8], label: &[u8]
         r (now (table .exit)) (now (store .exit)) ⌝ }
 {
     packs::packed_update(index::delete(table, store, label))
+}
+
+// Sets the charge of a held label.
+#[no_mangle]
+pub extern "C" fn strap_set_charge(
+    table: &mut [u16],
+    store: &[u8],
+    label: &[u8],
+    charge: u16,
+) -> usize
+    ensures { λ r. ⌜
+        Packs (chargeOutcome hub (now (table .entry)) (now (store .entry)) (now (label .entry)) charge)
+        r (now (table .exit)) (now (store .entry)) ⌝ }
+{
+    packs::packed_update(index::set_charge(table, store, label, charge))
 }
 
 // Tests the whole table and store.

@@ -66,7 +66,7 @@ pub const LENGTH: usize = 5;
 
 pub const VALUE: usize = 6;
 
-pub const SPARE: usize = 7;
+pub const CHARGE: usize = 7;
 
 fn wide(x: u16) -> usize {
     x as usize
@@ -104,6 +104,17 @@ pub fn field(image: &Image, slot: usize, j: usize) -> usize {
         }
     }
     0
+}
+
+// Word `j` of a slot becomes a number.
+pub fn put_field(image: &mut Image, slot: usize, j: usize, x: usize) {
+    if slot > 0 {
+        if slot < 513 {
+            if j < 8 {
+                put(image, TABLE + (8 * slot + j - 4), x);
+            }
+        }
+    }
 }
 
 // Where the bytes of a slot begin in the store.
@@ -147,9 +158,13 @@ pub fn number_at(image: &Image, slot: usize, place: usize) -> usize {
     }
 }
 
-// Whether two images are the same.
+// Whether two images are the same: no bit of an entry differs.
 pub fn same(one: &Image, other: &Image) -> bool {
-    unlike(one, other) == 0
+    let mut bits = 0u16;
+    for i in 0..37391usize {
+        bits = bits | (one[i] ^ other[i]);
+    }
+    bits == 0
 }
 
 // How many entries of two images differ.
@@ -172,28 +187,28 @@ pub fn lengths(image: &Image) -> Lent {
     }
 }
 
-pub fn words_of(image: &Image) -> Words {
-    let mut words = [0u16; 4101];
+// Reads the words and bytes of an image into lent arrays: none is copied on its way.
+pub fn read(image: &Image, words: &mut Words, bytes: &mut Bytes) {
+    read_words(image, words);
+    read_bytes(image, bytes);
+}
+
+fn read_words(image: &Image, words: &mut Words) {
     for i in 0..4101usize {
         words[i] = image[8 + i];
     }
-    words
 }
 
-pub fn bytes_of(image: &Image) -> Bytes {
-    let mut bytes = [0u8; 32769];
+fn read_bytes(image: &Image, bytes: &mut Bytes) {
     for i in 0..32769usize {
         bytes[i] = (image[4622 + i] % 256) as u8;
     }
-    bytes
 }
 
-pub fn list_of(image: &Image) -> List {
-    let mut list = [0u16; 513];
+pub fn read_list(image: &Image, list: &mut List) {
     for i in 0..513usize {
         list[i] = image[4109 + i];
     }
-    list
 }
 
 pub fn put_back(image: &mut Image, words: &Words, bytes: &Bytes) {

@@ -10,7 +10,7 @@ ghost use mathlib.Core.Path.{_≡_};
 ghost use Rattle.types.specs.Sizes.{hub};
 ghost use Rattle.types.specs.Answers.{searchSays, updateSays, doneSays, listSays};
 ghost use Rattle.tables.specs.Outcomes.{layoutOutcome, searchOutcome, insertOutcome, deleteOutcome};
-ghost use Rattle.tables.specs.Outcomes.{checkOutcome, listingOutcome, viewOutcome};
+ghost use Rattle.tables.specs.Outcomes.{chargeOutcome, checkOutcome, listingOutcome, viewOutcome};
 ghost use Rattle.tables.specs.Given.{Gives};
 ghost use Rattle.views.specs.Parts.{Views};
 ghost use Rattle.lists.specs.Given.{Lists};
@@ -48,6 +48,16 @@ pub fn delete(table: &mut [u16], store: &mut [u8], label: &[u8]) -> UpdateAnswer
         (updateSays r) (now (table .exit)) (now (store .exit)) ⌝ }
 {
     deletes::delete_within(types::hub(), table, store, label)
+}
+
+// Sets the charge of a held label, 0 to 100 or 255 for unknown: the label's slot, and its search's counts. Only that
+// word of the table changes. Refused by 1, 2, 3, 4, 24, 6 and 8.
+pub fn set_charge(table: &mut [u16], store: &[u8], label: &[u8], charge: u16) -> UpdateAnswer
+    ensures { λ r. ⌜
+        Gives (chargeOutcome hub (now (table .entry)) (now (store .entry)) (now (label .entry)) charge)
+        (updateSays r) (now (table .exit)) (now (store .entry)) ⌝ }
+{
+    charges::charge_within(types::hub(), table, store, label, charge)
 }
 
 // Tests the whole table and store. Refused by 1, 2 and, where they are not sound, 6.

@@ -7,6 +7,7 @@ use lib.ListN.{length}
 use Rattle.types.specs.declared.Limits.{Limits}
 use Rattle.types.specs.declared.Row.{Row}
 use Rattle.labels.specs.Labels.{Label}
+use Rattle.trees.specs.Charges.{unknown}
 use Rattle.tables.specs.Words.{rootLink, labelsHeld}
 use Rattle.tables.specs.Prefix.{sideBy}
 use Rattle.tables.specs.Written.{Memory}
@@ -37,7 +38,7 @@ leafRow fields len value =
       balance = 1;
       len = len;
       value = value;
-      spare = 0;
+      charge = unknown;
     }
 
 -- the leaf in its slot, one label more, the root's place counted as 0

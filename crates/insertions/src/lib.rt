@@ -4,6 +4,7 @@ use fields::Fields;
 use traces::Trace;
 use types::Limits;
 use types::Row;
+use words::charge::UNKNOWN;
 ghost use mathlib.Core.Path.{_≡_};
 ghost use Prim.Native.Nat.{_+_, _≤_};
 ghost use lib.ListN.{length};
@@ -66,7 +67,7 @@ pub fn put_leaf(table: &mut [u16], slot: u16, label: &[u8], value: u16, trace: T
         balance: 1,
         len: label.len() as u16,
         value,
-        spare: 0,
+        charge: UNKNOWN,
     };
     words::total::put_row(table, slot, row);
 }

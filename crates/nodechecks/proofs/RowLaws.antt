@@ -1,18 +1,24 @@
 -- The tests of a slot's row and of its part of the store.
 -- `part-inside`, `part-tested`: the part lies in the store, and is tested.
--- `used-empty`, `used-long`, `used-spare`, `used-tail`: the test of a slot in use.
+-- `rest-within`: a length that leaves less than the width is 1 to the width.
+-- `charge-unknown`, `charge-by-square`: the test of a charge.
+-- `used-length`, `used-bytes`, `used-charge`: the test of a slot in use.
 -- `used-short`: the label of a slot in use lies in its part.
 -- `freed-broken`, `freed-tail`: the test of a freed slot.
-use Prim.Native.Nat.{ℕ, _≤_, _<_}
-use mathlib.Core.Path.{_≡_, sym, _∙_}
+use Prim.Native.Nat.{ℕ, _+_, _*_, _%_, _^_, _≤_, _<_}
+use native.Mathlib.Decide.{decLe}
+use native.Mathlib.Nat.{mul-le-mul-left}
+use native.Mathlib.Omega.{arith}
+use mathlib.Core.Path.{_≡_, refl, sym, _∙_}
 use mathlib.Core.List.{List}
-use mathlib.Core.Bool.{Bool, true, false}
-use lib.Dec.{leb}
+use mathlib.Core.Bool.{Bool, true, false, _||_, _&&_}
+use lib.Dec.{leb, eqb}
 use lib.ListN.{drop}
-use borrow.Author.Tests.{lt-leb, le-leb, eq-eqb, ne-eqb, leb-true}
+use borrow.Author.Tests.{lt-leb, le-leb, leb-true, ne-eqb}
 use denote.Ref.{RefT}
 use Rattle.types.specs.declared.Limits.{Limits}
 use Rattle.types.specs.declared.Row.{Row}
+use Rattle.trees.specs.Charges.{unknown, isCharge}
 use Rattle.trees.proofs.Views.{both-true}
 use Rattle.tables.specs.Words.{partAt, labelAt}
 use Rattle.tables.specs.Sound.{allZero, zeroBesidesLeft}
@@ -20,6 +26,34 @@ use Rattle.words.specs.Parts.{LabelInside, Shows}
 use Rattle.gaps.specs.Windows.{PartFits}
 use Rattle.gaps.proofs.PartLaws.{part-ends}
 use Rattle.nodechecks.specs.Nodes.{usedRow, freedRow}
+
+-- a number is at most 100 exactly where its square is at most 10,000
+square-test : (n : ℕ) → leb (n * n) 10000 ≡ leb n 100
+square-test n = go (decLe n 100)
+  where
+    go : Dec (n ≤ 100) → leb (n * n) 10000 ≡ leb n 100
+    go (yes low) = rw (le-leb n 100 low, le-leb (n * n) 10000 (omega (arith, mul-le-mul-left n low)))
+    go (no above) =
+        let more : 101 ≤ n = omega arith in
+        rw (lt-leb n 100 (omega arith), lt-leb (n * n) 10000 (omega (arith, mul-le-mul-left n more)))
+
+-- a word that is 255 is a charge, and another one by its square
+pub charge-unknown : (n : ℕ) → n ≡ unknown → true ≡ isCharge n
+charge-unknown n is = rw is
+
+pub charge-by-square : (n : ℕ) → (n ≡ unknown → ⊥) → leb (n * n) 10000 ≡ isCharge n
+charge-by-square n other = square-test n ∙ go (leb n 100)
+  where
+    go : (b : Bool) → b ≡ (b || eqb n unknown)
+    go true = refl
+    go false = sym (ne-eqb n unknown other)
+
+-- what a length leaves of the width, modulo 2^64, is less than the width exactly where it is 1 to the width
+pub rest-within : (r len w : ℕ) → (r + len) % 2 ^ 64 ≡ w → w ≤ 4096 → len < 2 ^ 64 → r < w → (1 ≤ len) × (len ≤ w)
+rest-within r len w wraps small short less = (omega arith, omega arith)
+
+rest-beyond : (r len w : ℕ) → (r + len) % 2 ^ 64 ≡ w → r < 2 ^ 64 → w ≤ r → 1 ≤ len → len ≤ w → ⊥
+rest-beyond r len w wraps fits more some short = omega arith
 
 -- the part lies in the store
 pub part-inside : (limits : Limits) (store : List ℕ) (k first : ℕ) → PartFits limits store k first
@@ -35,27 +69,39 @@ unfolding partAt labelAt
 part-tested limits store part k first r shows e = rw (shows .bytes) at e
 
 module _ (limits : Limits) (store : List ℕ) (k : ℕ) (row : Row) where
-  -- a slot in use has a length of at least 1
-  pub used-empty : row .len < 1 → false ≡ usedRow limits store k row
-  unfolding usedRow
-  used-empty h = rw (lt-leb _ _ h)
-
-  -- a slot in use has a length of at most the width
-  pub used-long : 1 ≤ row .len → limits .width < row .len → false ≡ usedRow limits store k row
-  unfolding usedRow
-  used-long p h = rw (le-leb _ _ p, lt-leb _ _ h)
-
-  -- a slot in use has word 7 zero
-  pub used-spare : 1 ≤ row .len → row .len ≤ limits .width → (row .spare ≡ 0 → ⊥)
+  -- a slot in use has a length of 1 to the width
+  pub used-length : (r : ℕ) → (r + row .len) % 2 ^ 64 ≡ limits .width → r < 2 ^ 64 → limits .width ≤ r
       → false ≡ usedRow limits store k row
   unfolding usedRow
-  used-spare p q n = rw (le-leb _ _ p, le-leb _ _ q, ne-eqb _ _ n)
+  used-length r wraps fits more = go (decLe 1 (row .len)) (decLe (row .len) (limits .width))
+    where
+      go : Dec (1 ≤ row .len) → Dec (row .len ≤ limits .width)
+          → false ≡ (leb 1 (row .len) && (leb (row .len) (limits .width)
+          && (isCharge (row .charge) && allZero (drop (row .len) (partAt limits store k)))))
+      go (no none) short = rw (lt-leb 1 (row .len) (omega arith))
+      go (yes some) (no long) = rw (le-leb 1 (row .len) some, lt-leb (row .len) (limits .width) (omega arith))
+      go (yes some) (yes short) = absurd (rest-beyond r (row .len) (limits .width) wraps fits more some short)
 
-  -- the bytes after the label's end decide
-  pub used-tail : (r : Bool) → 1 ≤ row .len → row .len ≤ limits .width → row .spare ≡ 0
-      → r ≡ allZero (drop (row .len) (partAt limits store k)) → r ≡ usedRow limits store k row
+  -- the bytes after the label's end are zero
+  pub used-bytes : (t : Bool) → 1 ≤ row .len → row .len ≤ limits .width
+      → t ≡ allZero (drop (row .len) (partAt limits store k)) → t ≡ false → false ≡ usedRow limits store k row
   unfolding usedRow
-  used-tail r p q z e = rw (le-leb _ _ p, le-leb _ _ q, eq-eqb _ _ z) e
+  used-bytes t p q e f = rw (le-leb _ _ p, le-leb _ _ q, sym e ∙ f) (go (isCharge (row .charge)))
+    where
+      go : (b : Bool) → false ≡ (b && false)
+      go true = refl
+      go false = refl
+
+  -- word 7 decides then: it is a charge
+  pub used-charge : (t r : Bool) → 1 ≤ row .len → row .len ≤ limits .width
+      → t ≡ allZero (drop (row .len) (partAt limits store k)) → t ≡ true → r ≡ isCharge (row .charge)
+      → r ≡ usedRow limits store k row
+  unfolding usedRow
+  used-charge t r p q e f z = rw (le-leb _ _ p, le-leb _ _ q, sym e ∙ f) (z ∙ go (isCharge (row .charge)))
+    where
+      go : (b : Bool) → b ≡ (b && true)
+      go true = refl
+      go false = refl
 
   -- a slot in use has a label that lies in its part
   pub used-short : usedRow limits store k row ≡ true → row .len ≤ limits .width

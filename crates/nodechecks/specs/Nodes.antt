@@ -8,6 +8,7 @@ use lib.ListN.{drop}
 use Rattle.types.specs.declared.Limits.{Limits}
 use Rattle.types.specs.declared.Row.{Row}
 use Rattle.labels.specs.Neighbours.{Neighbour, held, difference}
+use Rattle.trees.specs.Charges.{isCharge}
 use Rattle.tables.specs.Words.{rowAt, partAt, entryAt}
 use Rattle.tables.specs.Prefix.{placeWithin, sideWithin}
 use Rattle.tables.specs.Sound.{allZero, usedSlot, zeroBesidesLeft}
@@ -19,7 +20,7 @@ use Rattle.gaps.specs.declared.Gaps.{Gaps}
 unfoldable pub usedRow : Limits → (store : List ℕ) → ℕ → Row → Bool
 usedRow limits store k row =
     leb 1 (row .len)
-    && (leb (row .len) (limits .width) && (eqb (row .spare) 0 && allZero (drop (row .len) (partAt limits store k))))
+    && (leb (row .len) (limits .width) && (isCharge (row .charge) && allZero (drop (row .len) (partAt limits store k))))
 
 -- a freed slot, of which the row was read
 unfoldable pub freedRow : Limits → (store : List ℕ) → ℕ → Row → Bool

@@ -1,10 +1,14 @@
 // The test of one node: its words and bytes, its order between its neighbours, its place and side;
 // and that of a freed slot.
 use gaps::Gaps;
+use std::num::wrapping_sub_usize;
 use types::Limits;
 use types::Row;
+use words::charge::UNKNOWN;
 ghost use mathlib.Core.Path.{_≡_};
+ghost use Prim.Native.Nat.{_≤_};
 ghost use lib.ListN.{drop};
+ghost use Rattle.trees.specs.Charges.{isCharge};
 ghost use Rattle.tables.specs.Words.{partAt};
 ghost use Rattle.tables.specs.Sound.{allZero, zeroBesidesLeft};
 ghost use Rattle.gaps.specs.Windows.{PartFits};
@@ -19,22 +23,34 @@ fn part_zero(limits: Limits, store: &[u8], slot: usize, first: usize) -> bool
     zeros::bytes_zero(part, first)
 }
 
-// Whether a slot in use has a label's length, word 7 zero, and zeros after the label's end.
+// Whether a word is a charge. One that is not known, as an insert leaves it, passes by one test. The others are told by
+// their square, at most 100 times 100: else the compiler makes both tests at once, which takes more instructions.
+fn charge_passes(charge: u16) -> bool
+    ensures { λ r. ⌜ r ≡ isCharge charge ⌝ }
+{
+    if charge == UNKNOWN {
+        return true;
+    }
+    let n = charge as usize;
+    n * n <= 10000
+}
+
+// Whether a slot in use has a label's length, a charge, and zeros after the label's end. What the length leaves of the
+// width, modulo 2^64, is less than the width exactly where it is 1 to the width.
 fn used_row(limits: Limits, store: &[u8], slot: usize, row: Row) -> bool
     requires { ⌜ PartFits limits (now store) slot 0 ⌝ }
+    requires { ⌜ limits .width ≤ 4096 ⌝ }
     ensures { λ r. ⌜ r ≡ usedRow limits (now (store .entry)) slot row ⌝ }
 {
     let len = row.len as usize;
-    if len < 1 {
+    let rest = wrapping_sub_usize(limits.width, len);
+    if limits.width <= rest {
         return false;
     }
-    if limits.width < len {
+    if !part_zero(limits, store, slot, len) {
         return false;
     }
-    if row.spare != 0 {
-        return false;
-    }
-    part_zero(limits, store, slot, len)
+    charge_passes(row.charge)
 }
 
 // Whether all words of a row but the first are zero.
@@ -59,7 +75,7 @@ fn zero_besides_left(row: Row) -> bool
     if row.value != 0 {
         return false;
     }
-    if row.spare != 0 {
+    if row.charge != 0 {
         return false;
     }
     true

@@ -3,3 +3,4 @@
 pub mod bounds;
 pub mod outcomes;
 pub mod steps;
+pub mod updates;

@@ -1,5 +1,6 @@
-// What each call says and leaves on memory of any lengths and content; of an update that is not refused, what it says.
-use crate::steps;
+// What each call says and leaves on memory of any lengths and content; of an insert or a delete that is not refused,
+// what it says.
+use crate::updates;
 use audits::lengths;
 use audits::listings;
 use audits::sound;
@@ -8,19 +9,17 @@ use images::memory::Image;
 use images::packing;
 use images::packing::refused;
 use samples::calls::CHECK;
-use samples::calls::DELETE;
-use samples::calls::INSERT;
 use samples::calls::LAYOUT;
 use samples::calls::LISTING;
-use samples::calls::SEARCH;
+use samples::calls::SET_CHARGE;
 use samples::calls::VIEW;
 use samples::calls::VIEW_CHECK;
 use std::num::wrapping_add_usize;
 
-// Makes a call on a label or a slot. The bytes of the view's part are left in the list.
-pub fn judge(image: &mut Image, call: usize, label: &[u8], slot: usize) -> usize {
+// Makes a call on a label or a slot, with a charge. The bytes of the view's part are left in the list.
+pub fn judge(image: &mut Image, call: usize, label: &[u8], number: usize) -> usize {
     if call == VIEW {
-        return view(image, slot);
+        return view(image, number);
     }
     let why = lengths::lent_refusal(image);
     if why > 0 {
@@ -30,60 +29,10 @@ pub fn judge(image: &mut Image, call: usize, label: &[u8], slot: usize) -> usize
         LISTING => list(image),
         LAYOUT => lay_out(image),
         CHECK => done(soundness_refusal(image)),
-        VIEW_CHECK => done(view_refusal(image, slot)),
-        _ => answer(image, call, label),
+        VIEW_CHECK => done(view_refusal(image, number)),
+        SET_CHARGE => updates::set_charge(image, label, number),
+        _ => updates::answer(image, call, label, number),
     }
-}
-
-// The answer of a search or an update on memory of the right lengths.
-fn answer(image: &Image, call: usize, label: &[u8]) -> usize {
-    if call != SEARCH {
-        if lengths::label_refusal(image, label.len()) == 0 {
-            if !sound::is_sound(image) {
-                return refused(6);
-            }
-        }
-    }
-    on_sound(image, call, label)
-}
-
-// The answer of a search, or of an update on memory that is sound.
-pub fn on_sound(image: &Image, call: usize, label: &[u8]) -> usize {
-    let why = lengths::label_refusal(image, label.len());
-    if why > 0 {
-        return refused(why);
-    }
-    let met = steps::search(image, label);
-    match call {
-        INSERT => inserted(image, met),
-        DELETE => deleted(met),
-        _ => met,
-    }
-}
-
-fn inserted(image: &Image, met: usize) -> usize {
-    if packing::kind(met) == packing::FOUND {
-        return refused(7);
-    }
-    if memory::word(image, memory::HELD) >= memory::entry(image, memory::SLOTS) {
-        return refused(9);
-    }
-    packing::updated(new_slot(image), met)
-}
-
-fn new_slot(image: &Image) -> usize {
-    let freed = memory::word(image, memory::FREE);
-    if freed > 0 {
-        return freed;
-    }
-    wrapping_add_usize(memory::word(image, memory::MARK), 1)
-}
-
-fn deleted(met: usize) -> usize {
-    if packing::kind(met) == packing::ABSENT {
-        return refused(8);
-    }
-    packing::updated(packing::one(met), met)
 }
 
 fn soundness_refusal(image: &Image) -> usize {

@@ -1,14 +1,14 @@
-// A plain ordered map from labels to values, to hold the index against: a sorted list of slots, looked through from its
-// start. It shares nothing with the index, no tree, no comparison and no layout. Each function takes any arguments:
-// what lies outside reads as 0 and is never written.
+// A plain ordered map from labels to values and charges, to hold the index against: a sorted list of slots, looked
+// through from its start. It shares nothing with the index, no tree, no comparison and no layout. Each function takes
+// any arguments: what lies outside reads as 0 and is never written.
 pub mod labels;
 pub mod lists;
 
 use lists::Lists;
 use std::num::wrapping_add_usize;
 
-// The lists of the map: the slots in ascending order of their labels, the slots freed, each slot's label length and
-// value, the counts and sizes, and 64 lists for the first to the last byte of each slot's label.
+// The lists of the map: the slots in ascending order of their labels, the slots freed, each slot's label length, value
+// and charge, the counts and sizes, and 64 lists for the first to the last byte of each slot's label.
 pub const ORDER: usize = 0;
 
 pub const FREED: usize = 1;
@@ -17,9 +17,11 @@ pub const LENGTHS: usize = 2;
 
 pub const VALUES: usize = 3;
 
-pub const COUNTS: usize = 4;
+pub const CHARGES: usize = 4;
 
-pub const BYTES: usize = 5;
+pub const COUNTS: usize = 5;
+
+pub const BYTES: usize = 6;
 
 // The counts: labels held, slots freed, slots ever used; and the sizes, slots and bytes of a label.
 const HELD: usize = 0;
@@ -31,6 +33,9 @@ const HIGH: usize = 2;
 const SLOTS: usize = 3;
 
 pub const WIDTH: usize = 4;
+
+// The charge of a label inserted: unknown.
+const UNKNOWN: usize = 255;
 
 // What the map says: a refusal's number, or 0 with the label's slot and value. A label that is not held has slot 0, and
 // a search says the slots of the nearest smaller and the nearest larger label, 0 for none.
@@ -81,7 +86,7 @@ struct Spot {
 
 // Empties the map, for so many labels of at most so many bytes; slots count from 1 again.
 pub fn clear(map: &mut Lists, slots: usize, width: usize) {
-    let empty = [0u16; 35397];
+    let empty = [0u16; 35910];
     *map = empty;
     lists::put(map, COUNTS, SLOTS, slots);
     lists::put(map, COUNTS, WIDTH, width);
@@ -122,6 +127,10 @@ pub fn length_of(map: &Lists, slot: usize) -> usize {
 
 pub fn value_of(map: &Lists, slot: usize) -> usize {
     lists::get(map, VALUES, slot)
+}
+
+pub fn charge_of(map: &Lists, slot: usize) -> usize {
+    lists::get(map, CHARGES, slot)
 }
 
 // The slot that was freed last and not taken since, or 0.
@@ -216,6 +225,7 @@ pub fn insert(map: &mut Lists, label: &[u8], value: u16) -> Said {
     }
     let slot = take_slot(map);
     put_at(map, spot.rank, slot, label, value);
+    lists::put(map, CHARGES, slot, UNKNOWN);
     at_slot(map, slot)
 }
 
@@ -225,10 +235,11 @@ fn put_at(map: &mut Lists, rank: usize, slot: usize, label: &[u8], value: u16) {
     open_rank(map, rank, slot);
 }
 
-// Holds a label that is not held yet, in a slot that the caller names.
-pub fn hold(map: &mut Lists, slot: usize, label: &[u8], value: u16) {
+// Holds a label that is not held yet, in a slot that the caller names, with a charge.
+pub fn hold(map: &mut Lists, slot: usize, label: &[u8], value: u16, charge: usize) {
     let spot = spot_of(map, label);
     put_at(map, spot.rank, slot, label, value);
+    lists::put(map, CHARGES, slot, charge);
 }
 
 fn delete_refusal(map: &Lists, len: usize, known: bool) -> usize {
@@ -254,6 +265,32 @@ pub fn delete(map: &mut Lists, label: &[u8]) -> Said {
     at_slot(map, slot)
 }
 
+// The number that refuses a charge for a label of a length, held or not; or 0.
+fn charge_refusal(map: &Lists, len: usize, known: bool, charge: usize) -> usize {
+    let why = length_refusal(map, len);
+    if why > 0 {
+        return why;
+    }
+    if (charge > 100) & (charge != UNKNOWN) {
+        return 24;
+    }
+    if known {
+        return 0;
+    }
+    8
+}
+
+pub fn set_charge(map: &mut Lists, label: &[u8], charge: usize) -> Said {
+    let spot = spot_of(map, label);
+    let why = charge_refusal(map, label.len(), spot.held, charge);
+    if why > 0 {
+        return no_slot(why);
+    }
+    let slot = slot_at(map, spot.rank);
+    lists::put(map, CHARGES, slot, charge);
+    at_slot(map, slot)
+}
+
 // Adds 1 to a count, and gives what it was.
 fn raise(map: &mut Lists, count: usize) -> usize {
     let n = lists::get(map, COUNTS, count);
@@ -269,9 +306,11 @@ fn lower(map: &mut Lists, count: usize) {
     }
 }
 
+// Frees a slot; its charge is forgotten.
 fn free_slot(map: &mut Lists, slot: usize) {
     let n = raise(map, FREE);
     lists::put(map, FREED, n, slot);
+    lists::put(map, CHARGES, slot, 0);
 }
 
 // The slot freed last, or else the one above the high mark, which rises.

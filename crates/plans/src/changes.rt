@@ -1,4 +1,5 @@
 // The changes that damage a sound table: what is written where.
+use crate::charges;
 use images::memory;
 use images::memory::Image;
 use images::sizes;
@@ -11,8 +12,8 @@ use std::num::wrapping_sub_usize;
 // freed slots; a link back to a node above, or to a freed slot earlier in the chain; a path on one side alone, of as
 // many nodes as a walk may visit, one less or one more; labels whose letters were told apart by their case, as a table
 // holds them that was written when capital letters counted as bytes like any other; a small place and a side of a node,
-// so that walks take every line of the search steps.
-pub const KINDS: usize = 10;
+// so that walks take every line of the search steps; the last word of a slot; the charges of all slots in use.
+pub const KINDS: usize = 12;
 
 pub const BYTE: usize = 3;
 
@@ -28,14 +29,18 @@ pub const OLD: usize = 8;
 
 pub const FIELDS: usize = 9;
 
+pub const CHARGE: usize = 10;
+
+pub const CHARGES: usize = 11;
+
 // An entry of the image, and what is written there.
-struct Written {
+pub struct Written {
     entry: usize,
     to: usize,
 }
 
 // A word of the table becomes a number; where there is no such word, nothing.
-fn word_to(word: usize, to: usize) -> Written {
+pub fn word_to(word: usize, to: usize) -> Written {
     let mut entry = 65535;
     if word < 4101 {
         entry = memory::TABLE + word;
@@ -58,13 +63,20 @@ pub fn times(shape: usize, kind: usize) -> usize {
         return 60;
     }
     if shape == shapes::ROSTER {
-        return 150;
+        return roster_times(kind);
     }
     match kind {
         0 => 900,
         BYTE => 500,
         _ => 300,
     }
+}
+
+fn roster_times(kind: usize) -> usize {
+    if kind == CHARGES {
+        return 40;
+    }
+    150
 }
 
 // Makes a change on a copy of the memory; whether it is one of its kind.
@@ -87,6 +99,7 @@ fn writes(image: &Image, kind: usize) -> usize {
         ROWS => 16,
         PATH => 4 * (memory::entry(image, memory::DEPTH) % 65) + 5,
         OLD => sizes::bytes(slots(image), memory::entry(image, memory::WIDTH)),
+        CHARGES => slots(image),
         _ => 1,
     }
 }
@@ -111,6 +124,8 @@ fn write(image: &Image, kind: usize, seed: u64, j: usize) -> Written {
         PATH => path_write(image, seed, j),
         OLD => old_write(image, seed, j),
         FIELDS => fields_write(image, seed, j),
+        CHARGE => charges::one_write(image, seed),
+        CHARGES => charges::each_write(image, seed, j),
         _ => word_write(image, numbers::mixed_seed(seed, j)),
     }
 }
@@ -164,7 +179,7 @@ fn any_slot(image: &Image, seed: u64) -> usize {
 }
 
 // Word `j` of a slot becomes a number.
-fn slot_write(slot: usize, j: usize, to: usize) -> Written {
+pub fn slot_write(slot: usize, j: usize, to: usize) -> Written {
     word_to(
         wrapping_sub_usize(wrapping_add_usize(8 * (slot % 513), j), 4),
         to,
@@ -201,12 +216,12 @@ fn head_write(image: &Image, side: usize, seed: u64) -> Written {
     word_to(memory::FREE, slot_by_use(image, seed, true))
 }
 
-fn in_use(image: &Image, slot: usize) -> bool {
+pub fn in_use(image: &Image, slot: usize) -> bool {
     memory::field(image, slot, memory::LENGTH) > 0
 }
 
 // A slot up to the high mark that is in use, or one that is freed: the first from a drawn one on.
-fn slot_by_use(image: &Image, seed: u64, used: bool) -> usize {
+pub fn slot_by_use(image: &Image, seed: u64, used: bool) -> usize {
     let mark = memory::word(image, memory::MARK);
     let mut slot = numbers::below(numbers::next(numbers::next(seed)), mark);
     for i in 0..mark {

@@ -1,4 +1,9 @@
 // The groups of calls on sound tables: which calls they make.
+use crate::charging;
+use crate::edges;
+use crate::planned::Planned;
+use crate::planned::judged;
+use crate::planned::named;
 use samples::calls::DELETE;
 use samples::calls::INSERT;
 use samples::calls::SEARCH;
@@ -15,11 +20,13 @@ use samples::shapes::SPELLED;
 use std::num::wrapping_add_usize;
 use std::num::wrapping_sub_usize;
 
-pub const GROUPS: usize = 20;
+pub const GROUPS: usize = 25;
 
 // The ways of a group: case 11 of the paper, by the index's sizes; all labels of a shape inserted, searched and
 // deleted, in order, in reverse or in steps of 333, and one inserted alone; calls drawn from a generator; some labels
-// inserted, then twelve deleted; a full table of names, each inserted again in another spelling.
+// inserted, then twelve deleted; a full table of names, each inserted again in another spelling. The hub alone has the
+// others: calls drawn, of which some set charges; labels inserted, each given a charge, deleted and inserted anew; the
+// charges at the edges.
 pub const CASE: usize = 0;
 
 pub const IN_ORDER: usize = 1;
@@ -33,6 +40,12 @@ pub const DRAWN: usize = 4;
 pub const PREPARED: usize = 5;
 
 pub const RESPELLED: usize = 6;
+
+pub const CHARGES_DRAWN: usize = 7;
+
+pub const CHARGED: usize = 8;
+
+pub const CHARGE_EDGES: usize = 9;
 
 // A group: its way, its shape, and of how many labels.
 pub struct Plan {
@@ -59,12 +72,29 @@ pub fn plan_of(group: usize, slots: usize) -> Plan {
         12 => group_of(DRAWN, SPELLED, many(slots)),
         13 => group_of(DRAWN, LETTERS, many(slots)),
         14 => group_of(RESPELLED, SPELLED, slots),
-        15 => group_of(PREPARED, ALIKE, fewer(45, slots)),
-        16 => group_of(PREPARED, ENDS, fewer(70, slots)),
-        17 => group_of(PREPARED, LETTERS, fewer(70, slots)),
-        18 => group_of(PREPARED, FOUR, fewer(70, slots)),
+        _ => later_plan(group, slots),
+    }
+}
+
+// The plan of a group with a number above 14.
+fn later_plan(group: usize, slots: usize) -> Plan {
+    match group {
+        15 => group_of(CHARGES_DRAWN, ALIKE, surplus(slots)),
+        16 => group_of(CHARGES_DRAWN, ANY, surplus(slots)),
+        17 => group_of(CHARGES_DRAWN, SPELLED, many(slots)),
+        18 => group_of(CHARGED, ROSTER, wrapping_sub_usize(slots, 1)),
+        19 => group_of(CHARGE_EDGES, ROSTER, 4),
+        20 => group_of(PREPARED, ALIKE, fewer(45, slots)),
+        21 => group_of(PREPARED, ENDS, fewer(70, slots)),
+        22 => group_of(PREPARED, LETTERS, fewer(70, slots)),
+        23 => group_of(PREPARED, FOUR, fewer(70, slots)),
         _ => group_of(PREPARED, ROSTER, wrapping_add_usize(slots, 48)),
     }
+}
+
+// Whether a group makes calls that the pairing page's index does not have.
+pub fn is_hubs(plan: Plan) -> bool {
+    plan.way >= CHARGES_DRAWN
 }
 
 fn group_of(way: usize, shape: usize, labels: usize) -> Plan {
@@ -99,20 +129,12 @@ pub fn calls(plan: Plan) -> usize {
         DRAWN => numbers::least(8000, 40 * labels),
         PREPARED => labels + 12,
         RESPELLED => 2 * labels + 8,
+        CHARGES_DRAWN => numbers::least(4000, 40 * labels),
+        CHARGED => 4 * labels,
+        CHARGE_EDGES => labels + edges::CALLS,
         _ => 3 * labels + 4,
     }
 }
-
-// A call: which, on which label of which shape, and the refusal's number that it is to have; `ANY_REFUSAL` where the
-// judges alone say it.
-pub struct Planned {
-    pub call: usize,
-    pub shape: usize,
-    pub label: usize,
-    pub refusal: usize,
-}
-
-pub const ANY_REFUSAL: usize = 12;
 
 // Call `i` of a group, with a number of its generator.
 pub fn call(plan: Plan, i: usize, seed: u64) -> Planned {
@@ -122,16 +144,10 @@ pub fn call(plan: Plan, i: usize, seed: u64) -> Planned {
         DRAWN => drawn(plan, i, seed),
         PREPARED => prepared(plan, i),
         RESPELLED => respelled(plan.labels, i),
+        CHARGES_DRAWN => charging::or_charge(drawn(plan, i, seed), seed),
+        CHARGED => charging::charged(plan.labels, i),
+        CHARGE_EDGES => charging::at_edges(plan.labels, i),
         _ => swept(plan, i),
-    }
-}
-
-fn judged(call: usize, shape: usize, label: usize) -> Planned {
-    Planned {
-        call: call,
-        shape: shape,
-        label: label,
-        refusal: ANY_REFUSAL,
     }
 }
 
@@ -230,12 +246,7 @@ fn full(slots: usize, i: usize) -> Planned {
 }
 
 fn member(label: usize, refusal: usize) -> Planned {
-    Planned {
-        call: INSERT,
-        shape: ROSTER,
-        label: label,
-        refusal: refusal,
-    }
+    named(INSERT, ROSTER, label, refusal)
 }
 
 // The longest label is inserted or refused by a number, one longer and none are refused by 4 and 3, and the first is
@@ -266,12 +277,7 @@ fn longest(call: usize, label: usize, refusal: usize) -> Planned {
         1 => 4,
         _ => 3,
     };
-    Planned {
-        call: call,
-        shape: LONGEST,
-        label: label,
-        refusal: number,
-    }
+    named(call, LONGEST, label, number)
 }
 
 // Names in small letters until the table is full, each again in another spelling, and then some calls on one of them.
@@ -304,10 +310,10 @@ fn renewed(slots: usize, i: usize) -> Planned {
 
 // A call on a name in a spelling.
 fn name(call: usize, number: usize, spelling: usize, refusal: usize) -> Planned {
-    Planned {
-        call: call,
-        shape: SPELLED,
-        label: wrapping_add_usize(4 * (number % 513), spelling),
-        refusal: refusal,
-    }
+    named(
+        call,
+        SPELLED,
+        wrapping_add_usize(4 * (number % 513), spelling),
+        refusal,
+    )
 }

@@ -3,13 +3,14 @@ use crate::Round;
 use crate::texts;
 use crate::texts::Line;
 use samples::calls::INSERT;
+use samples::calls::SET_CHARGE;
 use std::num::wrapping_add_usize;
 
-pub type Tally = [usize; 11];
+pub type Tally = [usize; 12];
 
 // The counts of a tally: the calls; of these the searches that found the label or did not, the updates, and those
 // refused; the most labels held; the calls that did not agree; the changes of the memory, and those of them that left
-// the table sound; the calls whose search reached the bound by shared bytes.
+// the table sound; the calls whose search reached the bound by shared bytes; the charges set.
 pub const CALLS: usize = 0;
 
 pub const FOUND: usize = 1;
@@ -32,12 +33,14 @@ pub const SOUND: usize = 9;
 
 pub const REACHED: usize = 10;
 
+pub const CHARGED: usize = 11;
+
 pub fn none() -> Tally {
-    [0usize; 11]
+    [0usize; 12]
 }
 
 pub fn get(tally: Tally, k: usize) -> usize {
-    if k < 11 {
+    if k < 12 {
         return tally[k];
     }
     0
@@ -45,7 +48,7 @@ pub fn get(tally: Tally, k: usize) -> usize {
 
 fn set(tally: Tally, k: usize, x: usize) -> Tally {
     let mut t = tally;
-    if k < 11 {
+    if k < 12 {
         t[k] = x;
     }
     t
@@ -90,10 +93,11 @@ fn end_of(call: usize, kind: usize) -> usize {
 }
 
 fn updates_end(call: usize) -> usize {
-    if call == INSERT {
-        return INSERTED;
+    match call {
+        INSERT => INSERTED,
+        SET_CHARGE => CHARGED,
+        _ => DELETED,
     }
-    DELETED
 }
 
 // Prints the line of a group of calls on sound tables of the hub or the page: its shape, its way, and its counts.
@@ -101,9 +105,9 @@ pub fn print_sequence(page: bool, shape: usize, way: usize, tally: Tally) {
     print(
         page,
         shape,
-        b", case 11|, in order|, reversed|, stepped|, drawn|, prepared|, respelled",
+        b"case 11|in order|reversed|stepped|drawn|prepared|respelled|charges drawn|charged|charge edges",
         way,
-        b": calls 0, found 1, absent 2, inserted 3, deleted 4, refused 5, most held 6, at the bound A, mismatches 7",
+        b": calls 0, found 1, absent 2, inserted 3, deleted 4, charged B, refused 5, most held 6, at the bound A",
         tally,
     );
 }
@@ -113,40 +117,42 @@ pub fn print_damage(page: bool, shape: usize, kind: usize, tally: Tally) {
     print(
         page,
         shape,
-        b", one word|, two words|, three words|, one byte|, two rows|, freed slots|, cycles|, paths|, old|, fields",
+        b"one word|two words|three words|one byte|two rows|freed slots|cycles|paths|old|fields|one charge|charges",
         kind,
-        b": changes 8, still sound 9, calls 0, mismatches 7",
+        b": changes 8, still sound 9, calls 0",
         tally,
     );
 }
 
-// Prints the line of the group of other lengths.
-pub fn print_lengths(page: bool, shape: usize, tally: Tally) {
+// Prints the line of the group of other lengths, or of that of charges refused.
+pub fn print_lent(page: bool, shape: usize, group: usize, tally: Tally) {
     print(
         page,
         shape,
-        b", other lengths",
-        0,
-        b": changes 8, calls 0, mismatches 7",
+        b"other lengths|charges refused",
+        group,
+        b": changes 8, calls 0",
         tally,
     );
 }
 
-// Prints a line: which index, the name of a shape, one among some names, and a text in which digits stand for counts.
+// Prints a line: which index, the name of a shape, one among some names, a text in which digits stand for counts, and
+// the calls that did not agree.
 fn print(page: bool, shape: usize, names: &[u8], name: usize, counts: &[u8], tally: Tally) {
     let mut line = [0u8; 400];
     let start = texts::put_name(&mut line, 0, b"hub, |page, ", page as usize);
     let a = put_shape(&mut line, start, shape);
     let b = texts::put_name(&mut line, a, names, name);
     let c = texts::put_counts(&mut line, b, counts, tally);
-    texts::print(&mut line, c);
+    let d = texts::put_counts(&mut line, c, b", mismatches 7", tally);
+    texts::print(&mut line, d);
 }
 
 fn put_shape(line: &mut Line, at: usize, shape: usize) -> usize {
     texts::put_name(
         line,
         at,
-        b"roster|alike|bytes 0 and 255|short|any bytes|longest|spelled|letters|bytes 1 to 4",
+        b"roster, |alike, |bytes 0 and 255, |short, |any bytes, |longest, |spelled, |letters, |bytes 1 to 4, ",
         shape,
     )
 }
@@ -165,7 +171,7 @@ fn put_call(line: &mut Line, call: usize) -> usize {
     texts::put_name(
         line,
         at,
-        b"search |check |listing |view_check |view |insert |delete |layout ",
+        b"search |check |listing |view_check |view |insert |delete |layout |set_charge ",
         call,
     )
 }
@@ -175,7 +181,7 @@ fn put_fault(line: &mut Line, at: usize, fault: usize) -> usize {
     texts::put_name(
         line,
         next,
-        b"|answer|answer beside the map|bounds|memory left|check|soundness|listing|views|head|refusal|shared bytes",
+        b"|answer|answer by the map|bounds|memory left|check|soundness|listing|views|head|refusal|shared bytes|charges",
         fault,
     )
 }

@@ -3,7 +3,7 @@
 -- `FreshSlot`, `fresh-slot`: the slot has a row and is in no node. `unlike-slots`: it is no node's.
 -- `chain-after`: the other free rows stay.
 -- `slot-of-table`: it is the slot that the table gives. `slot-taken`: so the plain tree replies.
--- `newNode`, `grown`, `state-of-new`: the new node in that slot, and the plain tree's next state.
+-- `leafNode`, `grown`, `state-of-new`: the new node in that slot, and the plain tree's next state.
 use mathlib.Core.List.{List, [], _∷_, _++_}
 use mathlib.Core.Path.{_≡_, refl, ap}
 use mathlib.Core.Logic.{_≢_}
@@ -18,7 +18,7 @@ use Rattle.types.specs.declared.Limits.{Limits}
 use Rattle.labels.specs.Labels.{Label}
 use Rattle.trees.specs.Trees.{Entry, Tree, slots, size}
 use Rattle.trees.specs.Updates.{inserted}
-use Rattle.trees.specs.Plain.{State, updated, hung, newEntry}
+use Rattle.trees.specs.Plain.{State, updated, newNode, hung, newEntry}
 use Rattle.trees.specs.Valid.{Valid, occurrences}
 use Rattle.trees.proofs.Counts.{Exactly, occurrences-append, outside-never-occurs, occurs-inside, occurs-at-most-once}
 use Rattle.trees.proofs.SlotCounts.{length-of-slots}
@@ -86,13 +86,13 @@ new-of-taken x value t [] high = refl
 new-of-taken x value t (k ∷ more) high = refl
 
 -- a new label's node, in the slot that the table gives
-abbrev pub newNode : Limits → State → Label → ℕ → Entry
-newNode limits s x value = record { label = x; value = value; slot = slotTaken (writtenTable limits s) }
+abbrev pub leafNode : Limits → State → Label → ℕ → Entry
+leafNode limits s x value = newNode x value (slotTaken (writtenTable limits s))
 
 -- the plain tree's next state, with that slot
 abbrev pub grown : Limits → State → Label → ℕ → State
 grown limits s x value = record {
-  tree = inserted (newNode limits s x value) (s .tree);
+  tree = inserted (leafNode limits s x value) (s .tree);
   freed = freedAfter (s .freed);
   high = markAfter (s .freed) (s .high);
 }

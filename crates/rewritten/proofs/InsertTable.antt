@@ -40,7 +40,7 @@ use Rattle.rewritten.proofs.Traces.{Way}
 use Rattle.rewritten.proofs.Roots.{Placed, header-of-rooted, root-of-rooted, placed-rooted}
 use Rattle.rewritten.proofs.Roots.{link-apart, rows-of-rep}
 use Rattle.rewritten.proofs.FromRows.{once-of-valid, table-from-rows}
-use Rattle.rewritten.proofs.Fresh.{freedAfter, FreshSlot, unlike-slots, newNode, grown, fresh-slot}
+use Rattle.rewritten.proofs.Fresh.{freedAfter, FreshSlot, unlike-slots, leafNode, grown, fresh-slot}
 use Rattle.rewritten.proofs.LeafSet.{Leafed, leaf-set}
 
 -- One slot counts at most once.
@@ -64,7 +64,7 @@ module _ (limits : Limits) (s : State) (x : Label) (value : ℕ) (trace : Trace)
   t = s .tree
 
   abbrev new : Entry
-  new = newNode limits s x value
+  new = leafNode limits s x value
 
   abbrev k : ℕ
   k = slotTaken (writtenTable limits s)

@@ -29,7 +29,7 @@ use Rattle.rewritten.proofs.FromRows.{slot-of-valid}
 use Rattle.rewritten.proofs.FromParts.{Each, each-append, each-split, each-map, PartIs, WrittenParts}
 use Rattle.rewritten.proofs.FromParts.{store-from-parts, parts-of-written}
 use Rattle.rewritten.proofs.Stored.{part-stored, part-past-stored, padded-from}
-use Rattle.rewritten.proofs.Fresh.{FreshSlot, unlike-slots, newNode, grown, fresh-slot, state-of-new}
+use Rattle.rewritten.proofs.Fresh.{FreshSlot, unlike-slots, leafNode, grown, fresh-slot, state-of-new}
 use Rattle.rewritten.proofs.InsertTable.{insert-table}
 
 -- A fact of each node of a list holds with a node set in that has it.
@@ -49,7 +49,7 @@ module _ (limits : Limits) (s : State) (x : Label) (value : ℕ) (valid : Valid 
   t = s .tree
 
   abbrev new : Entry
-  new = newNode limits s x value
+  new = leafNode limits s x value
 
   abbrev k : ℕ
   k = slotTaken (writtenTable limits s)

@@ -34,7 +34,7 @@ use Rattle.rewritten.proofs.InRows.{RowsOf, rows-kept}
 use Rattle.rewritten.proofs.Roots.{Placed, placed-root, header-of-root, link-apart, rep-of-rows}
 use Rattle.rewritten.proofs.FromRows.{rows-of-written, once-of-valid}
 use Rattle.rewritten.proofs.Fresh.{freedAfter, markAfter, FreshSlot, unlike-slots, chain-after}
-use Rattle.rewritten.proofs.Fresh.{newNode, slot-of-table, fresh-slot}
+use Rattle.rewritten.proofs.Fresh.{leafNode, slot-of-table, fresh-slot}
 use Rattle.rewritten.proofs.Taken.{TakenWords, taken-words}
 use Rattle.rewritten.proofs.Leaves.{leaf-row}
 
@@ -45,7 +45,7 @@ pub record Leafed (limits : Limits) (s : State) (x : Label) (value : ℕ) (table
   pub free : firstFree table ≡ firstOf (freedAfter (s .freed))
   pub mark : highMark table ≡ markAfter (s .freed) (s .high)
   pub rep : Rep table none-below none-above (s .tree)
-  pub leaf : Stands table (lowTo none-below x (s .tree)) empty (newNode limits s x value) empty
+  pub leaf : Stands table (lowTo none-below x (s .tree)) empty (leafNode limits s x value) empty
       (highTo none-above x (s .tree))
   pub outside : (k : ℕ) → 1 ≤ k → k ≤ limits .slots
       → occurrences k (slotTaken (writtenTable limits s) ∷ slots (s .tree)) ≡ 0
@@ -105,14 +105,14 @@ module _ (limits : Limits) (s : State) (x : Label) (value : ℕ) (trace : Trace)
   sought = let ends : Ends x t absent trace = rw none at (way .ends) in ends .1
 
   -- The leaf stands in its slot.
-  leaf-stands : Stands (withRootPlace stored 0) (lowTo none-below x t) empty (newNode limits s x value) empty
+  leaf-stands : Stands (withRootPlace stored 0) (lowTo none-below x t) empty (leafNode limits s x value) empty
       (highTo none-above x t)
   leaf-stands = record {
     has = record { low = fresh .low; high = rw (placed .words, length-put-row) (has-slot .high) };
     row =
         placed .others k (fresh .low) (link-apart t k (fresh .low) (fresh .unused))
         ∙ row-put-same counted k row has-slot
-        ∙ leaf-row limits table (writtenStore limits s) (newNode limits s x value) trace _ _
+        ∙ leaf-row limits table (writtenStore limits s) x value (slotTaken table) trace _ _
         (way .below) (way .above) sought;
   }
 

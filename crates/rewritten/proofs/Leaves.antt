@@ -12,7 +12,8 @@ use borrow.Author.Tests.{ne-eqb}
 use Rattle.types.specs.declared.Limits.{Limits}
 use Rattle.labels.specs.Labels.{Label}
 use Rattle.labels.specs.Neighbours.{Neighbour, none-below, none-above}
-use Rattle.trees.specs.Trees.{Entry, empty}
+use Rattle.trees.specs.Trees.{empty}
+use Rattle.trees.specs.Plain.{newNode}
 use Rattle.tables.specs.Prefix.{sideBy, sideWithin}
 use Rattle.gaps.specs.Windows.{belowIn, aboveIn}
 use Rattle.steps.proofs.Window.{Sought}
@@ -73,9 +74,10 @@ leaf-fields limits table store x trace low high below above sought =
     })
 
 -- The leaf's row is the one that it stands in.
-pub leaf-row : (limits : Limits) (table store : List ℕ) (new : Entry) (trace : Trace) (low high : Neighbour)
+pub leaf-row : (limits : Limits) (table store : List ℕ) (x : Label) (value slot : ℕ) (trace : Trace)
+    (low high : Neighbour)
     → belowIn limits table store (trace .below) ≡ low → aboveIn limits table store (trace .above) ≡ high
-    → Sought low (new .label) high (trace .p) (trace .s)
-    → leafRow (leafFields trace) (length (new .label)) (new .value) ≡ bareRow low empty new empty high
-leaf-row limits table store new trace low high below above sought =
-    rw (leaf-fields limits table store (new .label) trace low high below above sought)
+    → Sought low x high (trace .p) (trace .s)
+    → leafRow (leafFields trace) (length x) value ≡ bareRow low empty (newNode x value slot) empty high
+leaf-row limits table store x value slot trace low high below above sought =
+    rw (leaf-fields limits table store x trace low high below above sought)

@@ -44,7 +44,7 @@ row-past-header table i value k low =
       balance = at (slotStart k + 4) (omega arith) j;
       len = at (slotStart k + 5) (omega arith) j;
       value = at (slotStart k + 6) (omega arith) j;
-      spare = at (slotStart k + 7) (omega arith) j;
+      charge = at (slotStart k + 7) (omega arith) j;
     }
   where
     at : (m : ℕ) → 4 ≤ m → getD (set table i value) m 0 ≡ getD table m 0

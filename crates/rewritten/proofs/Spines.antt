@@ -115,7 +115,7 @@ module _ (limits : Limits) (store : List ℕ) where
           λ i. row i .right,
           λ i. row i .len,
           λ i. row i .value,
-          λ i. row i .spare,
+          λ i. row i .charge,
           whole .rep .2,
         ),
         renews-none (slots (node empty e r)) table,

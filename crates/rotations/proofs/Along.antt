@@ -55,7 +55,7 @@ RepLeast table m q empty = Unit {0}
 RepLeast table m q (node empty e r) =
     HasRow table (e .slot) × (rowAt table (e .slot) .left ≡ 0) × (rowAt table (e .slot) .right ≡ linkOf r)
     × (rowAt table (e .slot) .len ≡ length (e .label)) × (rowAt table (e .slot) .value ≡ e .value)
-    × (rowAt table (e .slot) .spare ≡ 0) × Rep table (held (e .label)) q r
+    × (rowAt table (e .slot) .charge ≡ e .charge) × Rep table (held (e .label)) q r
 RepLeast table m q (node (node a d b) e r) =
     Stands table m (node a d b) e r q × RepLeast table m (held (e .label)) (node a d b)
     × Rep table (held (e .label)) q r

@@ -45,7 +45,7 @@ each-case right (node i w j) y r e short met =
 
 -- An entry, and a tree of one node.
 abbrev some-entry : Entry
-some-entry = record { label = []; value = 0; slot = 0 }
+some-entry = record { label = []; value = 0; slot = 0; charge = 0 }
 
 abbrev leaf : Tree
 leaf = node empty some-entry empty

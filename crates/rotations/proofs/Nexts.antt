@@ -46,7 +46,7 @@ module _ (table : List ℕ) (p q : Neighbour) (l : Tree) (e : Entry) (r : Tree) 
       balance = stands .row i .balance;
       len = holds .len i;
       value = holds .value i;
-      spare = holds .spare i;
+      charge = holds .charge i;
     });
   }
 
@@ -64,7 +64,7 @@ holds-framed {m = m} frame none holds =
       has = has-framed frame (holds .has);
       len = ap (λ (row : Row). row .len) kept ∙ holds .len;
       value = ap (λ (row : Row). row .value) kept ∙ holds .value;
-      spare = ap (λ (row : Row). row .spare) kept ∙ holds .spare;
+      charge = ap (λ (row : Row). row .charge) kept ∙ holds .charge;
     }
 
 -- the node e with sons l and r, between p and q; o is r without its smallest node m, which comes into the place of e

@@ -70,7 +70,7 @@ pub record Holds (table : List ℕ) (m : Entry) : Type 0 where
   pub has : HasRow table (m .slot)
   pub len : rowAt table (m .slot) .len ≡ length (m .label)
   pub value : rowAt table (m .slot) .value ≡ m .value
-  pub spare : rowAt table (m .slot) .spare ≡ 0
+  pub charge : rowAt table (m .slot) .charge ≡ m .charge
 
 -- the smallest node taken out of the tree: its slot, what its row holds, and the rest
 pub record Pops (table : List ℕ) (l : Tree) (e : Entry) (r : Tree) (q : Neighbour) (o : Taken) : Type 0 where
@@ -114,7 +114,7 @@ pop-refines empty e r p q table (suc height′) kept order once rep fits =
     rw (pop-at-end height′ (e .slot) table (rep .1))
     (record {
       least = refl;
-      holds = record { has = rep .0; len = rep .3; value = rep .4; spare = rep .5 };
+      holds = record { has = rep .0; len = rep .3; value = rep .4; charge = rep .5 };
       rest = refines-of-son r (held (e .label)) q table (slots r) (rowAt table (e .slot) .right)
           (height (node empty e r)) (rep .2) (omega arith) (rep .6);
     })

@@ -25,7 +25,7 @@ rowOf p l r b e q =
       balance = b;
       len = length (e .label);
       value = e .value;
-      spare = 0;
+      charge = e .charge;
     }
 
 -- two labels in order between two neighbours

@@ -40,7 +40,7 @@ bareRow p l e r q =
       balance = balanceOf (height l) (height r);
       len = length (e .label);
       value = e .value;
-      spare = 0;
+      charge = e .charge;
     }
 
 pub record Stands (table : List ℕ) (p : Neighbour) (l : Tree) (e : Entry) (r : Tree) (q : Neighbour) : Type 0 where

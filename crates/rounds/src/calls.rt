@@ -2,24 +2,30 @@
 use crate::hub;
 use crate::page;
 use images::memory;
+use images::memory::Bytes;
 use images::memory::Image;
 use images::memory::Lent;
+use images::memory::List;
+use images::memory::Words;
 use images::packing;
 use samples::calls::LISTING;
 use samples::calls::VIEW;
 
-// Makes a call on a label, with a value or a slot, and puts what it leaves into the image; the answer in one number.
+// Makes a call on a label, with a value, a charge or a slot, and puts what it leaves into the image; the answer in one
+// number.
 pub fn make(image: &mut Image, call: usize, label: &[u8], number: usize) -> usize {
-    let mut words = memory::words_of(image);
-    let mut bytes = memory::bytes_of(image);
+    let mut words = [0u16; 4101];
+    let mut bytes = [0u8; 32769];
+    memory::read(image, &mut words, &mut bytes);
     let lent = memory::lengths(image);
     if fills_list(call) {
-        let mut list = memory::list_of(image);
-        let said = lend_list(&words, &bytes, &mut list, lent, call, number);
+        let mut list = [0u16; 513];
+        memory::read_list(image, &mut list);
+        let said = on_list(&words, &bytes, &mut list, lent, call, number);
         memory::put_list(image, &list);
         return said;
     }
-    let said = lend(&mut words, &mut bytes, lent, call, label, number);
+    let said = on_memory(&mut words, &mut bytes, lent, call, label, number);
     memory::put_back(image, &words, &bytes);
     said
 }
@@ -30,6 +36,28 @@ fn fills_list(call: usize) -> bool {
         VIEW => true,
         _ => false,
     }
+}
+
+fn on_memory(
+    words: &mut Words,
+    bytes: &mut Bytes,
+    lent: Lent,
+    call: usize,
+    label: &[u8],
+    number: usize,
+) -> usize {
+    lend(words, bytes, lent, call, label, number)
+}
+
+fn on_list(
+    words: &Words,
+    bytes: &Bytes,
+    list: &mut List,
+    lent: Lent,
+    call: usize,
+    slot: usize,
+) -> usize {
+    lend_list(words, bytes, list, lent, call, slot)
 }
 
 // Makes a call on the first words and bytes.

@@ -4,13 +4,15 @@ use samples::calls::DELETE;
 use samples::calls::INSERT;
 use samples::calls::LAYOUT;
 use samples::calls::SEARCH;
+use samples::calls::SET_CHARGE;
 
-// A call that takes table and store, on a label, with a value or a slot.
+// A call that takes table and store, on a label, with a value, a charge or a slot.
 pub fn on(table: &mut [u16], store: &mut [u8], call: usize, label: &[u8], number: usize) -> usize {
     match call {
         INSERT => exports::strap_insert(table, store, label, (number % 65536) as u16),
         DELETE => exports::strap_delete(table, store, label),
         LAYOUT => exports::strap_layout(table, store),
+        SET_CHARGE => exports::strap_set_charge(table, store, label, (number % 65536) as u16),
         _ => read(table, store, call, label, number),
     }
 }

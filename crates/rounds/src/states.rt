@@ -3,8 +3,10 @@ use crate::calls;
 use crate::hub;
 use crate::page;
 use images::memory;
+use images::memory::Bytes;
 use images::memory::Image;
 use images::memory::Lent;
+use images::memory::Words;
 use images::packing;
 use plainmap::lists::Lists;
 use reports::faults;
@@ -12,8 +14,8 @@ use samples::calls::CHECK;
 use samples::calls::LISTING;
 
 // The fault of what a call left; where the second writing has none, that of the index's own check, listing and views.
-pub fn fault(found: &Image, left: &Image, map: &Lists, said: usize) -> usize {
-    let fault = comparisons::states::fault(found, left, map, said);
+pub fn fault(found: &Image, left: &Image, map: &Lists, call: usize, said: usize) -> usize {
+    let fault = comparisons::states::fault(found, left, map, call, said);
     if fault > 0 {
         return fault;
     }
@@ -26,9 +28,14 @@ pub fn fault(found: &Image, left: &Image, map: &Lists, said: usize) -> usize {
 }
 
 fn read_fault(image: &Image, map: &Lists) -> usize {
-    let words = memory::words_of(image);
-    let bytes = memory::bytes_of(image);
-    lent_fault(&words, &bytes, memory::lengths(image), map)
+    let mut words = [0u16; 4101];
+    let mut bytes = [0u8; 32769];
+    memory::read(image, &mut words, &mut bytes);
+    memory_fault(&words, &bytes, memory::lengths(image), map)
+}
+
+fn memory_fault(words: &Words, bytes: &Bytes, lent: Lent, map: &Lists) -> usize {
+    lent_fault(words, bytes, lent, map)
 }
 
 // The fault of the check, or of a view, on the first words and bytes.

@@ -14,3 +14,6 @@ pub const INSERT: usize = 5;
 pub const DELETE: usize = 6;
 
 pub const LAYOUT: usize = 7;
+
+// The call that the hub's index alone has.
+pub const SET_CHARGE: usize = 8;

@@ -23,7 +23,7 @@ flipped true row =
       balance = mirrored (row .balance);
       len = row .len;
       value = row .value;
-      spare = row .spare;
+      charge = row .charge;
     }
 
 abbrev pub rowOn : Bool → List ℕ → ℕ → Row
@@ -43,7 +43,7 @@ linkedRow row left right balance =
       balance = balance;
       len = row .len;
       value = row .value;
-      spare = row .spare;
+      charge = row .charge;
     }
 
 -- a row with other prefix fields
@@ -57,7 +57,7 @@ prefixed row place side =
       balance = row .balance;
       len = row .len;
       value = row .value;
-      spare = row .spare;
+      charge = row .charge;
     }
 
 -- the side that points from the near son to its parent: a left son's successor, a right son's predecessor

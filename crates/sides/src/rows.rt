@@ -37,7 +37,7 @@ pub fn flip_row(flip: bool, row: Row) -> Row
             balance: mirrored(row.balance),
             len: row.len,
             value: row.value,
-            spare: row.spare,
+            charge: row.charge,
         }
     } else {
         row
@@ -59,18 +59,18 @@ pub fn put_on(table: &mut [u16], flip: bool, slot: u16, row: Row)
 }
 
 // A row with other links and another balance.
-pub fn linked_row(row: Row, left: u16, right: u16, balance: u16) -> Row
-    ensures { λ r. ⌜ r ≡ linkedRow row left right balance ⌝ }
+pub fn linked_row(node: Row, left: u16, right: u16, balance: u16) -> Row
+    ensures { λ r. ⌜ r ≡ linkedRow node left right balance ⌝ }
 {
     Row {
         left,
         right,
-        place: row.place,
-        side: row.side,
+        place: node.place,
+        side: node.side,
         balance,
-        len: row.len,
-        value: row.value,
-        spare: row.spare,
+        len: node.len,
+        value: node.value,
+        charge: node.charge,
     }
 }
 
@@ -86,7 +86,7 @@ pub fn prefixed(row: Row, place: u16, side: u16) -> Row
         balance: row.balance,
         len: row.len,
         value: row.value,
-        spare: row.spare,
+        charge: row.charge,
     }
 }
 

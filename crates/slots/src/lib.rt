@@ -61,7 +61,7 @@ pub fn free_slot(table: &mut [u16], slot: u16)
         balance: 0,
         len: 0,
         value: 0,
-        spare: 0,
+        charge: 0,
     };
     words::total::put_row(table, slot, row);
     words::total::set_word(table, 2, slot);

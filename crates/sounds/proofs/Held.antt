@@ -63,7 +63,7 @@ module _ {limits : Limits} {table store : List ℕ} (bytes : length store ≡ st
           balance = balance i;
           len = sym long i;
           value = rowAt table k .value;
-          spare = used .spare i;
+          charge = rowAt table k .charge;
         };
         label = ap (labelAt limits store k) long;
       }

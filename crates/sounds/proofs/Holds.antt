@@ -29,7 +29,8 @@ use Rattle.tables.proofs.Clauses.{SoundParts, parts-of-test}
 use Rattle.sounds.proofs.Zeros.{zeros-are-padding}
 use Rattle.sounds.proofs.Held.{length-of-part, represents-read}
 use Rattle.sounds.proofs.SlotRows.{tree-row-read, chain-row-read, zero-row-above}
-use Rattle.sounds.proofs.SlotParts.{tree-part-read, chain-part-read, zero-part-above, fitting-read}
+use Rattle.sounds.proofs.SlotParts.{tree-part-read, chain-part-read, zero-part-above}
+use Rattle.sounds.proofs.SlotParts.{fitting-read, charges-read}
 
 module _ (limits : Limits) (table store : List ℕ) (words : length table ≡ tableLength limits)
     (bytes : length store ≡ storeLength limits) (t : Tree) (freed : List ℕ)
@@ -92,6 +93,7 @@ module _ (limits : Limits) (table store : List ℕ) (words : length table ≡ ta
     balanced = parts .balanced;
     ascending = parts .ascending;
     fitting = fitting-read limits table store none-below none-above t represents;
+    charges-fit = charges-read limits table store stands (parts .used);
     allotted = parts .allotted;
     within = parts .within;
   }

@@ -1,7 +1,7 @@
 -- Each part of a sound store is the label that the tree read from it writes, padded with zeros.
 -- tree-part-read: a slot's part is what the tree writes, where the other slots' parts are what is written otherwise.
 -- chain-part-read: the parts of the freed slots are zero. zero-part-above: so are the parts above the high mark.
--- fitting-read: the labels' lengths fit.
+-- fitting-read: the labels' lengths fit. charges-read: the nodes have charges.
 use mathlib.Core.List.{List, [], _∷_, _++_, map-append}
 use mathlib.Core.Path.{_≡_, refl, ap, _∙_}
 use mathlib.Core.Bool.{Bool, true, false, cond}
@@ -16,9 +16,11 @@ use Rattle.types.specs.declared.Limits.{Limits}
 use Rattle.types.specs.Sizes.{storeLength}
 use Rattle.labels.specs.Labels.{Label}
 use Rattle.labels.specs.Neighbours.{Neighbour, held}
-use Rattle.trees.specs.Trees.{Entry, Tree, empty, node, labels, slots}
+use Rattle.trees.specs.Trees.{Entry, Tree, empty, node, labels, slots, charges}
+use Rattle.trees.specs.Charges.{allCharges}
 use Rattle.trees.specs.Valid.{oneIf, occurrences, lengthsFit}
 use Rattle.trees.proofs.Views.{both-true}
+use Rattle.trees.proofs.Charged.{charges-of-node}
 use Rattle.trees.proofs.SlotCounts.{occurrences-of-node}
 use Rattle.trees.proofs.MapKept.{Fits, fits-none, fits-more, test-of-fits}
 use Rattle.tables.specs.Words.{rowAt, partStart, partAt, labelAt, entryAt}
@@ -117,3 +119,17 @@ module _ (limits : Limits) (table store : List ℕ) where
   pub fitting-read : (p s : Neighbour) (t : Tree) → Represents limits table store p s t
       → lengthsFit (limits .width) (labels t) ≡ true
   fitting-read p s t stands = test-of-fits (fits-represented p s t stands)
+
+-- The nodes of a tree that was read from slots in use have charges.
+pub charges-read : (limits : Limits) (table store : List ℕ) {t : Tree} {link : ℕ} → Stands limits table store t link
+    → usedSlots limits table store t ≡ true → allCharges (charges t) ≡ true
+charges-read limits table store stands-none used = refl
+charges-read limits table store (stands-node {k} {l} {r} low up at-l at-r) used =
+    let (used-here, used-sons) = both-true _ _ .0 used in
+    let (used-l, used-r) = both-true _ _ .0 used-sons in
+    rw (
+      charges-of-node l (entryAt limits table store k) r,
+      charges-read limits table store at-l used-l,
+      used-of-test used-here .charge,
+      charges-read limits table store at-r used-r,
+    )

@@ -50,7 +50,7 @@ module _ (limits : Limits) (table store : List ℕ) (k : ℕ) where
 -- A row of zeros besides its left link is a free row.
 free-row : (row : Row) (next : ℕ) → row .left ≡ next → zeroBesidesLeft row ≡ true → freeRow next ≡ row
 free-row row next left zeros =
-    let others = row .right ∷ row .place ∷ row .side ∷ row .balance ∷ row .len ∷ row .value ∷ row .spare ∷ [] in
+    let others = row .right ∷ row .place ∷ row .side ∷ row .balance ∷ row .len ∷ row .value ∷ row .charge ∷ [] in
     let at = zero-at others zeros in
     sym (λ i. record {
       left = left i;
@@ -60,7 +60,7 @@ free-row row next left zeros =
       balance = at 3 i;
       len = at 4 i;
       value = at 5 i;
-      spare = at 6 i;
+      charge = at 6 i;
     })
 
 module _ (limits : Limits) (table store : List ℕ) (k : ℕ) where
@@ -95,7 +95,7 @@ zero-row-above table high k above zeros =
       balance = at 4 i;
       len = at 5 i;
       value = at 6 i;
-      spare = at 7 i;
+      charge = at 7 i;
     })
   where
     at : (j : ℕ) → getD table (slotStart k + j) 0 ≡ 0

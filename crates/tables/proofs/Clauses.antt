@@ -11,6 +11,7 @@ use borrow.Author.Tests.{leb-true, le-leb, eqb-true, eq-eqb}
 use Rattle.types.specs.declared.Limits.{Limits}
 use Rattle.labels.specs.Neighbours.{none-below, none-above}
 use Rattle.trees.specs.Trees.{Tree, labels, slots, size}
+use Rattle.trees.specs.Charges.{isCharge}
 use Rattle.trees.specs.Heights.{isBalanced}
 use Rattle.trees.specs.Valid.{ascends, exactlyUpTo}
 use Rattle.trees.proofs.Views.{both-true}
@@ -118,7 +119,7 @@ module _ (limits : Limits) (table store : List ℕ) where
 pub record UsedSlot (limits : Limits) (table store : List ℕ) (k : ℕ) : Type 0 where
   pub some : 1 ≤ rowAt table k .len
   pub short : rowAt table k .len ≤ limits .width
-  pub spare : rowAt table k .spare ≡ 0
+  pub charge : isCharge (rowAt table k .charge) ≡ true
   pub zeros : allZero (drop (rowAt table k .len) (partAt limits store k)) ≡ true
 
 -- A passed test of a slot in use says each of its parts.
@@ -127,8 +128,8 @@ pub used-of-test : {limits : Limits} {table store : List ℕ} {k : ℕ}
 used-of-test passed =
     let (some, after-some) = both-true _ _ .0 passed in
     let (short, after-short) = both-true _ _ .0 after-some in
-    let (spare, zeros) = both-true _ _ .0 after-short in
-    record { some = leb-true _ _ some; short = leb-true _ _ short; spare = eqb-true _ _ spare; zeros = zeros }
+    let (charge, zeros) = both-true _ _ .0 after-short in
+    record { some = leb-true _ _ some; short = leb-true _ _ short; charge = charge; zeros = zeros }
 
 -- what the test of a freed slot and those after it says
 pub record FreedSlot (limits : Limits) (table store : List ℕ) (k : ℕ) (more : List ℕ) : Type 0 where

@@ -1,28 +1,27 @@
--- The claims: sound tables are the written-out trees; demand 2, the ordered map; demand 3, the cost rule over a whole
--- list of calls.
-use mathlib.Core.List.{List, [], _∷_, map}
-use mathlib.Core.Option.{Option, none, some}
+-- The claims: sound tables are the written-out trees; demand 3, the cost rule over a whole list of calls. Demand 2 is
+-- MapClaims.
+use mathlib.Core.List.{List, [], _∷_}
+use mathlib.Core.Option.{some}
 use mathlib.Core.Path.{_≡_}
-use mathlib.Core.Bool.{true}
-use Prim.Native.Nat.{ℕ, _+_, _≤_, _<_}
-use lib.ListN.{length, take, drop}
+use mathlib.Core.Bool.{true, false}
+use Prim.Native.Nat.{ℕ, _+_, _≤_}
+use lib.ListN.{length}
 use Rattle.types.specs.declared.Limits.{Limits}
 use Rattle.types.specs.Sizes.{tableLength, storeLength}
-use Rattle.types.specs.Answers.{Answer, found, absent, updated, listed, done, refused}
+use Rattle.types.specs.Answers.{found}
 use Rattle.labels.specs.Labels.{Label, Alike}
 use Rattle.labels.specs.Shared.{mostShared}
 use Rattle.trees.specs.Trees.{Entry, Tree, NodeOf, labels, size}
 use Rattle.trees.specs.Heights.{least}
 use Rattle.trees.specs.Searches.{fullSearch}
 use Rattle.trees.specs.Plain as plain
-use Rattle.trees.specs.Plain.{State, fresh, Call, soughtBy, plainStep}
-use Rattle.trees.specs.Valid.{Valid, ascends}
-use Rattle.trees.specs.Map.{Pair, lookup, insertion, removal, mapOf}
-use Rattle.tables.specs.Words.{slotStart, rowAt, partStart, labelAt}
+use Rattle.trees.specs.Plain.{State, fresh, Call, soughtBy, wrongCharge, plainStep}
+use Rattle.trees.specs.Valid.{Valid}
+use Rattle.tables.specs.Words.{slotStart, partStart}
 use Rattle.tables.specs.Written.{Memory, written}
 use Rattle.tables.specs.Steps.{ended, searchSteps}
 use Rattle.tables.specs.Sound.{sound, stateOf}
-use Rattle.tables.specs.Outcomes.{Outcome, searchOutcome, updateOutcome, layoutOutcome, listingOutcome}
+use Rattle.tables.specs.Outcomes.{Outcome, searchOutcome, updateOutcome, layoutOutcome}
 use Rattle.tables.specs.Outcomes.{replyAnswer, visitsOf, placesOf}
 
 -- ---- sizes
@@ -51,102 +50,12 @@ pub record SoundIsWritten (limits : Limits) : Type 0 where
   pub sounds : (m : Memory) (s : State) → Holds limits m s → Sound limits m
   pub reads : (m : Memory) (s : State) → Holds limits m s → stateOf limits (m .table) (m .store) ≡ s
 
--- ---- demand 2: "On a sound table it is the plain ordered map"
+-- ---- labels
 
--- the map that a table holds
-abbrev pub mapIn : Limits → Memory → List Pair
-mapIn limits m = mapOf (stateOf limits (m .table) (m .store) .tree)
-
--- the labels of its pairs
-abbrev pub labelsIn : Limits → Memory → List Label
-labelsIn limits m = map (λ p. p .label) (mapIn limits m)
-
--- the label of a slot, as the view shows it
-abbrev pub labelIn : Limits → Memory → ℕ → Label
-labelIn limits m k = labelAt limits (m .store) k (rowAt (m .table) k .len)
-
+-- "A label is 1 to 64 bytes"
 pub record LabelFits (limits : Limits) (x : Label) : Type 0 where
   pub some : 1 ≤ length x
   pub short : length x ≤ limits .width
-
--- what a search answer says is held: the label that its slot shows, and the value
-abbrev pub pairSaid : Limits → Memory → Answer → Option Pair
-pairSaid limits m (found slot value visits places) = some (record { label = labelIn limits m slot; value = value })
-pairSaid limits m (absent below above visits places) = none
-pairSaid limits m (updated slot visits places) = none
-pairSaid limits m (listed count) = none
-pairSaid limits m done = none
-pairSaid limits m (refused number) = none
-
--- search answers as lookup: the value, and "the spelling first stored is the one shown" (M-104 of document 02), which
--- is alike to the label sought; it is not refused
-pub record SearchLooksUp (limits : Limits) (m : Memory) (x : Label) : Type 0 where
-  pub pair : pairSaid limits m (searchOutcome limits (m .table) (m .store) x) ≡ lookup x (mapIn limits m)
-  pub slot :
-      (k v visits places : ℕ) → searchOutcome limits (m .table) (m .store) x ≡ found k v visits places
-      → Alike x (labelIn limits m k)
-  pub answered : (number : ℕ) → searchOutcome limits (m .table) (m .store) x ≡ refused number → ⊥
-
--- an update's answer, as the map has it: done, or refused by a number
-pub data Said : Type 0 where
-  accepted : Said
-  refused-by : ℕ → Said
-
-abbrev pub said : Answer → Said
-said (found slot value visits places) = accepted
-said (absent below above visits places) = accepted
-said (updated slot visits places) = accepted
-said (listed count) = accepted
-said done = accepted
-said (refused number) = refused-by number
-
-abbrev pub insertSaid : Option Pair → (held capacity : ℕ) → Said → Type 0
-insertSaid (some p) held capacity a = a ≡ refused-by 7
-insertSaid none held capacity a = (capacity ≤ held → a ≡ refused-by 9) × (held < capacity → a ≡ accepted)
-
-abbrev pub mapAfterInsert : Said → Pair → List Pair → List Pair
-mapAfterInsert accepted new m = insertion new m
-mapAfterInsert (refused-by number) new m = m
-
-abbrev pub deleteSaid : Option Pair → Said → Type 0
-deleteSaid (some p) a = a ≡ accepted
-deleteSaid none a = a ≡ refused-by 8
-
-pub record UpdatesMap (limits : Limits) (m : Memory) (x : Label) (value : ℕ) : Type 0 where
-  pub insert-says :
-      insertSaid (lookup x (mapIn limits m)) (length (mapIn limits m)) (limits .slots)
-      (said (updateOutcome limits (plain.insert x value) (m .table) (m .store) .answer))
-  pub insert-leaves :
-      mapIn limits (updateOutcome limits (plain.insert x value) (m .table) (m .store) .memory)
-      ≡ mapAfterInsert (said (updateOutcome limits (plain.insert x value) (m .table) (m .store) .answer))
-      (record { label = x; value = value }) (mapIn limits m)
-  pub insert-sound : Sound limits (updateOutcome limits (plain.insert x value) (m .table) (m .store) .memory)
-  pub delete-says :
-      deleteSaid (lookup x (mapIn limits m))
-      (said (updateOutcome limits (plain.delete x) (m .table) (m .store) .answer))
-  pub delete-leaves :
-      mapIn limits (updateOutcome limits (plain.delete x) (m .table) (m .store) .memory) ≡ removal x (mapIn limits m)
-  pub delete-sound : Sound limits (updateOutcome limits (plain.delete x) (m .table) (m .store) .memory)
-
--- a listing with room gives the number of labels, and the slots of the labels in ascending order; "later words stay"
-pub record ListsAscending (limits : Limits) (m : Memory) (list : List ℕ) : Type 0 where
-  pub count : listingOutcome limits (m .table) (m .store) list .answer ≡ listed (length (mapIn limits m))
-  pub labels :
-      map (labelIn limits m) (take (length (mapIn limits m)) (listingOutcome limits (m .table) (m .store) list .list))
-      ≡ labelsIn limits m
-  pub ascending : ascends (labelsIn limits m) ≡ true
-  pub later :
-      drop (length (mapIn limits m)) (listingOutcome limits (m .table) (m .store) list .list)
-      ≡ drop (length (mapIn limits m)) list
-
--- The claim of demand 2, for every sound table and every label.
-pub record OrderedMap (limits : Limits) : Type 0 where
-  pub searches : (m : Memory) → Sound limits m → (x : Label) → LabelFits limits x → SearchLooksUp limits m x
-  pub updates :
-      (m : Memory) → Sound limits m → (x : Label) → LabelFits limits x → (value : ℕ) → UpdatesMap limits m x value
-  pub lists :
-      (m : Memory) → Sound limits m → (list : List ℕ) → length (mapIn limits m) ≤ length list
-      → ListsAscending limits m list
 
 -- ---- demand 3: "one claim about the whole list of calls, not a claim for each call"
 
@@ -180,16 +89,24 @@ pub record FindsHeld (limits : Limits) (x : Label) (m : Memory) (t : Tree) : Typ
       (slot value visits places : ℕ) → searchOutcome limits (m .table) (m .store) x ≡ found slot value visits places
       → (e : Entry) × NodeOf e t × Alike x (e .label) × (e .slot ≡ slot) × (e .value ≡ value)
 
--- what a call of the list answers and leaves
+-- what a call answers and leaves
 abbrev pub callOutcome : Limits → Call → Memory → Outcome
 callOutcome limits (plain.search x) m = record { answer = searchOutcome limits (m .table) (m .store) x; memory = m }
 callOutcome limits (plain.insert x value) m = updateOutcome limits (plain.insert x value) (m .table) (m .store)
 callOutcome limits (plain.delete x) m = updateOutcome limits (plain.delete x) (m .table) (m .store)
+callOutcome limits (plain.set-charge x charge) m =
+    updateOutcome limits (plain.set-charge x charge) (m .table) (m .store)
+
+-- a call that makes a search: its label fits, and what it gives is a charge ("24 comes before its search", M-109 of
+-- document 02)
+pub record Searches (limits : Limits) (c : Call) : Type 0 where
+  pub label : LabelFits limits (soughtBy c)
+  pub charge : wrongCharge c ≡ false
 
 -- one call of the list, beside the plain tree's step
 pub record CallAgrees (limits : Limits) (c : Call) (m : Memory) (s : State) : Type 0 where
-  pub search : LabelFits limits (soughtBy c) → SearchAgrees limits (soughtBy c) m (s .tree)
-  pub finds : LabelFits limits (soughtBy c) → FindsHeld limits (soughtBy c) m (s .tree)
+  pub search : Searches limits c → SearchAgrees limits (soughtBy c) m (s .tree)
+  pub finds : Searches limits c → FindsHeld limits (soughtBy c) m (s .tree)
   -- refused when the plain tree refuses, by the same number; slots and values are the plain tree's, and so are the
   -- neighbours of an absent label; the counts are those of the steps
   pub answer :

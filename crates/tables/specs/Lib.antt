@@ -7,3 +7,4 @@ pub mod Paths
 pub mod Outcomes
 pub mod Given
 pub mod Claims
+pub mod MapClaims

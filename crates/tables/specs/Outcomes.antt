@@ -13,7 +13,7 @@ use Rattle.trees.specs.Trees.{slots}
 use Rattle.trees.specs.Searches as held
 use Rattle.trees.specs.Searches.{slotOf}
 use Rattle.trees.specs.Plain as plain
-use Rattle.trees.specs.Plain.{Call, Reply, After, soughtBy, plainStep}
+use Rattle.trees.specs.Plain.{Call, Reply, After, soughtBy, wrongCharge, plainStep}
 use Rattle.tables.specs.Words.{labelsHeld, rowAt, labelAt}
 use Rattle.tables.specs.Written.{Memory, written}
 use Rattle.tables.specs.Steps.{Walk, broken, ended, searchSteps}
@@ -39,6 +39,10 @@ ofMemory limits table store below =
 -- "label: 3, length 0; 4, length above 64"
 abbrev pub ofLabel : Limits → Label → Verdict → Verdict
 ofLabel limits x below = line (eqb (length x) 0) 3 (line (ltb (limits .width) (length x)) 4 below)
+
+-- "Checks: 24, a charge neither 0 to 100 nor 255, after 4" (M-109 of document 02)
+abbrev pub ofCharge : Call → Verdict → Verdict
+ofCharge c below = line (wrongCharge c) 24 below
 
 -- "slot given: 11, 0, above 512, or its length word is 0 or above 64"
 abbrev pub ofSlot : Limits → (table : List ℕ) → ℕ → Verdict → Verdict
@@ -111,7 +115,7 @@ listingOutcome limits table store list =
     listingBy (ofMemory limits table store (ofTable limits table store (ofList table list pass))) list
     (slots (stateOf limits table store .tree))
 
--- ---- layout, insert, delete
+-- ---- layout, insert, delete, a charge set
 
 pub record Outcome : Type 0 where
   pub answer : Answer
@@ -158,10 +162,12 @@ abbrev pub settled : Limits → Memory → Walk → After → Outcome
 settled limits m w a =
     record { answer = replyAnswer (a .reply) w; memory = memoryAfter limits m (a .reply) (a .state) }
 
--- insert and delete: the plain tree's own step on the tree that the sound table holds, written out again
+-- insert, delete and the call that sets a charge: the plain tree's own step on the tree that the sound table holds,
+-- written out again
 unfoldable pub updateOutcome : Limits → Call → (table store : List ℕ) → Outcome
 updateOutcome limits c table store =
-    outcomeBy (ofMemory limits table store (ofLabel limits (soughtBy c) (ofTable limits table store pass)))
+    outcomeBy
+    (ofMemory limits table store (ofLabel limits (soughtBy c) (ofCharge c (ofTable limits table store pass))))
     (record { table = table; store = store })
     (settled limits (record { table = table; store = store }) (searchSteps limits table store (soughtBy c))
     (plainStep (limits .slots) (limits .width) c (stateOf limits table store)))
@@ -171,3 +177,7 @@ insertOutcome limits table store x value = updateOutcome limits (plain.insert x 
 
 unfoldable pub deleteOutcome : Limits → (table store : List ℕ) → Label → Outcome
 deleteOutcome limits table store x = updateOutcome limits (plain.delete x) table store
+
+-- "The new call tests soundness, refuses a label not held by 8 and answers as delete does" (M-109 of document 02)
+unfoldable pub chargeOutcome : Limits → (table store : List ℕ) → Label → ℕ → Outcome
+chargeOutcome limits table store x charge = updateOutcome limits (plain.set-charge x charge) table store

@@ -9,6 +9,7 @@ use Rattle.types.specs.declared.Limits.{Limits}
 use Rattle.types.specs.declared.Row.{Row}
 use Rattle.labels.specs.Neighbours.{Neighbour, none-below, held, none-above}
 use Rattle.trees.specs.Trees.{Entry, Tree, empty, node, labels, slots, size}
+use Rattle.trees.specs.Charges.{isCharge}
 use Rattle.trees.specs.Heights.{height, isBalanced}
 use Rattle.trees.specs.Plain.{State, fresh}
 use Rattle.trees.specs.Valid.{ascends, exactlyUpTo}
@@ -65,12 +66,13 @@ abbrev pub allZero : List ℕ → Bool
 allZero [] = true
 allZero (n ∷ more) = eqb n 0 && allZero more
 
--- a slot in use: a length of 1 to 64, word 7 "always 0", "zeros after the label's end"
+-- a slot in use: a length of 1 to 64; word 7 a charge, "The soundness check demands it" (M-109 of document 02); "zeros
+-- after the label's end"
 abbrev pub usedSlot : Limits → (table store : List ℕ) → ℕ → Bool
 usedSlot limits table store k =
     leb 1 (rowAt table k .len)
     && (leb (rowAt table k .len) (limits .width)
-    && (eqb (rowAt table k .spare) 0 && allZero (drop (rowAt table k .len) (partAt limits store k))))
+    && (isCharge (rowAt table k .charge) && allZero (drop (rowAt table k .len) (partAt limits store k))))
 
 abbrev pub usedSlots : Limits → (table store : List ℕ) → Tree → Bool
 usedSlots limits table store empty = true
@@ -80,7 +82,7 @@ usedSlots limits table store (node l e r) =
 -- all words of a row but word 0
 abbrev pub zeroBesidesLeft : Row → Bool
 zeroBesidesLeft row =
-    allZero (row .right ∷ row .place ∷ row .side ∷ row .balance ∷ row .len ∷ row .value ∷ row .spare ∷ [])
+    allZero (row .right ∷ row .place ∷ row .side ∷ row .balance ∷ row .len ∷ row .value ∷ row .charge ∷ [])
 
 -- "A freed slot has all words 0 but word 0, the next free link; its 64 bytes are zero."
 abbrev pub freedSlots : Limits → (table store : List ℕ) → List ℕ → Bool

@@ -1,7 +1,7 @@
 -- 'Words and bytes lent' of document 01: where the words of a table and the bytes of a store stand.
 use mathlib.Core.List.{List}
 use Prim.Native.Nat.{ℕ, _+_, _-_, _*_}
-use lib.ListN.{getD, take, drop}
+use lib.ListN.{getD, set, take, drop}
 use Rattle.types.specs.declared.Limits.{Limits}
 use Rattle.types.specs.declared.Row.{Row}
 use Rattle.labels.specs.Labels.{Label}
@@ -24,7 +24,8 @@ highMark table = getD table 3 0
 abbrev pub slotStart : ℕ → ℕ
 slotStart k = 4 + 8 * (k - 1)
 
--- the table of the eight words: "left link, right link, place, side, balance, label length, value, always 0"
+-- the table of the eight words: "left link, right link, place, side, balance, label length, value"; "Word 7 of a slot
+-- in use becomes the strap's charge" (M-109 of document 02)
 abbrev pub rowFrom : List ℕ → ℕ → Row
 rowFrom table b =
     record {
@@ -35,11 +36,15 @@ rowFrom table b =
       balance = getD table (b + 4) 0;
       len = getD table (b + 5) 0;
       value = getD table (b + 6) 0;
-      spare = getD table (b + 7) 0;
+      charge = getD table (b + 7) 0;
     }
 
 unfoldable pub rowAt : List ℕ → ℕ → Row
 rowAt table k = rowFrom table (slotStart k)
+
+-- word 7 of slot k stored, every other word as it was
+unfoldable pub putCharge : List ℕ → ℕ → ℕ → List ℕ
+putCharge table k charge = set table (slotStart k + 7) charge
 
 -- "The label store is 32,768 bytes, 64 for each slot, slot 1 first"
 abbrev pub partStart : Limits → ℕ → ℕ
@@ -55,4 +60,9 @@ labelAt limits store k len = take len (drop (partStart limits k) store)
 -- the node of slot k
 abbrev pub entryAt : Limits → List ℕ → List ℕ → ℕ → Entry
 entryAt limits table store k =
-    record { label = labelAt limits store k (rowAt table k .len); value = rowAt table k .value; slot = k }
+    record {
+      label = labelAt limits store k (rowAt table k .len);
+      value = rowAt table k .value;
+      slot = k;
+      charge = rowAt table k .charge;
+    }

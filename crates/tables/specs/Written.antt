@@ -38,12 +38,13 @@ nodeRow p l e r s =
       balance = balanceOf (height l) (height r);
       len = length (e .label);
       value = e .value;
-      spare = 0;
+      charge = e .charge;
     }
 
--- "A freed slot has all words 0 but word 0, the next free link"
+-- "A freed slot has all words 0 but word 0, the next free link"; "a free slot keeps 0 there", in word 7 (M-109 of
+-- document 02)
 abbrev pub freeRow : ℕ → Row
-freeRow next = record { left = next; right = 0; place = 0; side = 0; balance = 0; len = 0; value = 0; spare = 0 }
+freeRow next = record { left = next; right = 0; place = 0; side = 0; balance = 0; len = 0; value = 0; charge = 0 }
 
 -- the row of slot k in a tree between p and s; otherwise where the tree does not have the slot.
 -- The window p, s that is passed down is each node's predecessor and successor: `WindowIsNeighbour` (Paths).
@@ -72,7 +73,7 @@ slotLabel s k = treeLabel (s .tree) k []
 -- a row's words, in front of more
 abbrev pub rowBefore : Row → List ℕ → List ℕ
 rowBefore r more =
-    r .left ∷ r .right ∷ r .place ∷ r .side ∷ r .balance ∷ r .len ∷ r .value ∷ r .spare ∷ more
+    r .left ∷ r .right ∷ r .place ∷ r .side ∷ r .balance ∷ r .len ∷ r .value ∷ r .charge ∷ more
 
 -- n rows, of slot k and on
 abbrev pub rowsFrom : (ℕ → Row) → ℕ → ℕ → List ℕ

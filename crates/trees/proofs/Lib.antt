@@ -8,6 +8,7 @@ pub mod Balance
 pub mod Visits
 pub mod Entries
 pub mod SetIn
+pub mod Charged
 pub mod Counts
 pub mod SlotCounts
 pub mod Allotment

@@ -15,7 +15,7 @@ use Rattle.trees.proofs.Heights.{Kept, kept-of-balanced, balanced-of-ke
 
 -- an entry for trees in which no entry matters
 abbrev blank : Entry
-blank = record { label = []; value = 0; slot = 0 }
+blank = record { label = []; value = 0; slot = 0; charge = 0 }
 
 -- One height more takes at least as many nodes.
 least-grows : (h : ℕ) → least h ≤ least (suc h)

@@ -1,6 +1,7 @@
 pub mod Trees
 pub mod Heights
 pub mod Searches
+pub mod Charges
 pub mod Turns
 pub mod Updates
 pub mod Plain

@@ -1,5 +1,5 @@
--- The plain ordered map from labels to values: an ascending list of pairs, with lookup, insertion and removal, and the
--- neighbours of a label in it.
+-- The plain ordered map from labels to values and charges: an ascending list of pairs, with lookup, insertion and
+-- removal, the charge of a label set, and the neighbours of a label in it.
 use mathlib.Core.Bool.{true}
 use mathlib.Core.List.{List, [], _∷_, map, List·Memᴰ}
 use mathlib.Core.Logic.{_⊎_}
@@ -10,9 +10,11 @@ use Rattle.labels.specs.Labels.{Label, Comparison, smaller, same, larger, compa
 use Rattle.trees.specs.Trees.{Entry, Tree, Side, left, right, entries}
 use Rattle.trees.specs.Valid.{isSmaller}
 
+-- a label with its value and its charge
 pub record Pair : Type 0 where
   pub label : Label
   pub value : ℕ
+  pub charge : ℕ
 
 abbrev pub lookupBy : Comparison → Pair → Option Pair → Option Pair
 lookupBy (smaller i) p further = none
@@ -29,7 +31,8 @@ insertionBy (smaller i) new p more further = new ∷ p ∷ more
 insertionBy (same i) new p more further = p ∷ more
 insertionBy (larger i) new p more further = p ∷ further
 
--- a pair set in at its label's place; a label that is held, however it is spelled, keeps its spelling and its value
+-- a pair set in at its label's place; a label that is held, however it is spelled, keeps its spelling, its value and
+-- its charge
 abbrev pub insertion : Pair → List Pair → List Pair
 insertion new [] = new ∷ []
 insertion new (p ∷ more) = insertionBy (compareLabels (new .label) (p .label)) new p more (insertion new more)
@@ -43,9 +46,19 @@ abbrev pub removal : Label → List Pair → List Pair
 removal x [] = []
 removal x (p ∷ more) = removalBy (compareLabels x (p .label)) p more (removal x more)
 
+abbrev pub chargingBy : Comparison → ℕ → Pair → List Pair → List Pair → List Pair
+chargingBy (smaller i) n p more further = p ∷ more
+chargingBy (same i) n p more further = record { label = p .label; value = p .value; charge = n } ∷ more
+chargingBy (larger i) n p more further = p ∷ further
+
+-- "A new call sets it for a held label" (M-109 of document 02): its spelling and its value stay
+abbrev pub charging : Label → ℕ → List Pair → List Pair
+charging x n [] = []
+charging x n (p ∷ more) = chargingBy (compareLabels x (p .label)) n p more (charging x n more)
+
 -- the map that a tree holds
 abbrev pub pairOf : Entry → Pair
-pairOf e = record { label = e .label; value = e .value }
+pairOf e = record { label = e .label; value = e .value; charge = e .charge }
 
 abbrev pub mapOf : Tree → List Pair
 mapOf t = map pairOf (entries t)

@@ -1,4 +1,5 @@
--- The plain tree ('The cost rule' of document 01): "Its nodes carry a label, a value and a slot."
+-- The plain tree ('The cost rule' of document 01): "Its nodes carry a label, a value and a slot." "In the cost rule
+-- nodes carry the charge" too (M-109 of document 02).
 use mathlib.Core.List.{List, [], _∷_, _++_, map}
 use Prim.Native.Nat.{ℕ, suc, _+_}
 use Rattle.labels.specs.Labels.{Label}
@@ -7,6 +8,7 @@ pub record Entry : Type 0 where
   pub label : Label
   pub value : ℕ
   pub slot : ℕ
+  pub charge : ℕ
 
 pub data Tree : Type 0 where
   empty : Tree
@@ -28,6 +30,9 @@ labels t = map (λ e. e .label) (entries t)
 
 abbrev pub slots : Tree → List ℕ
 slots t = map (λ e. e .slot) (entries t)
+
+abbrev pub charges : Tree → List ℕ
+charges t = map (λ e. e .charge) (entries t)
 
 -- the number of nodes
 abbrev pub size : Tree → ℕ

@@ -7,7 +7,8 @@ use Prim.Native.Nat.{ℕ, zero, suc, _+_, _≤_}
 use lib.Dec.{leb, eqb}
 use lib.ListN.{length}
 use Rattle.labels.specs.Labels.{Label, Comparison, smaller, same, larger, compareLabels}
-use Rattle.trees.specs.Trees.{labels, slots}
+use Rattle.trees.specs.Trees.{labels, slots, charges}
+use Rattle.trees.specs.Charges.{allCharges}
 use Rattle.trees.specs.Heights.{Balanced}
 use Rattle.trees.specs.Plain.{State}
 
@@ -47,11 +48,12 @@ onceUpTo (suc n) list = eqb (occurrences (suc n) list) 1 && onceUpTo n list
 abbrev pub exactlyUpTo : ℕ → List ℕ → Bool
 exactlyUpTo high list = eqb (length list) high && onceUpTo high list
 
--- a height-balanced tree whose labels ascend and fit the width; its slots and the freed ones together are those up to
--- the high mark, each once; the high mark is within the capacity
+-- a height-balanced tree whose labels ascend and fit the width, with charges of 0 to 100 or 255; its slots and the
+-- freed ones together are those up to the high mark, each once; the high mark is within the capacity
 pub record Valid (capacity width : ℕ) (s : State) : Type 0 where
   pub balanced : Balanced (s .tree)
   pub ascending : ascends (labels (s .tree)) ≡ true
   pub fitting : lengthsFit width (labels (s .tree)) ≡ true
+  pub charges-fit : allCharges (charges (s .tree)) ≡ true
   pub allotted : exactlyUpTo (s .high) (slots (s .tree) ++ s .freed) ≡ true
   pub within : s .high ≤ capacity

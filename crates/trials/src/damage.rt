@@ -1,19 +1,26 @@
 // The groups of calls on damaged memory: sound tables with words, bytes, rows or links changed.
+use crate::sequences;
 use images::memory;
 use images::memory::Image;
 use plans::changes;
 use plans::changes::KINDS;
 use plans::changes::OLD;
+use plans::planned::ANY_REFUSAL;
 use reports::tallies;
 use reports::tallies::CALLS;
 use reports::tallies::CHANGES;
 use reports::tallies::MISMATCHES;
 use reports::tallies::SOUND;
 use reports::tallies::Tally;
+use samples::calls::SET_CHARGE;
+use samples::charges;
 use samples::numbers;
 use samples::shapes;
 use samples::shapes::Label;
 use std::num::wrapping_add_usize;
+
+// The calls that are made on memory: each by its number; the hub's, which sets a charge, once more.
+pub const ALL_CALLS: usize = 10;
 
 // Makes the changes of each kind on a table of a shape, and prints a line for each.
 pub fn run(image: &Image, shape: usize) {
@@ -73,7 +80,7 @@ fn every(image: &Image, shape: usize, kind: usize, seed: u64, tally: Tally) -> T
     let slot = numbers::below(numbers::next(seed), numbers::least(80, slots));
     let changed = tallies::one_more(tally, CHANGES);
     let counted = tallies::one_more_if(changed, SOUND, audits::sound::is_sound(image));
-    calls(image, shapes::opening(&label, n), slot, counted)
+    calls(image, shapes::opening(&label, n), slot, seed, counted)
 }
 
 // Writes a label of the shape, and for an old table one that fits it; gives its length.
@@ -96,18 +103,49 @@ fn write_old(label: &mut Label, width: usize, shape: usize, seed: u64) -> usize 
     n
 }
 
-fn calls(image: &Image, label: &[u8], slot: usize, tally: Tally) -> Tally {
+// How many of these calls the index has.
+pub fn calls_of(image: &Image) -> usize {
+    if memory::is_page(image) {
+        return SET_CHARGE;
+    }
+    ALL_CALLS
+}
+
+fn calls(image: &Image, label: &[u8], slot: usize, seed: u64, tally: Tally) -> Tally {
     let mut after = tally;
-    for call in 0..8usize {
-        let next = tried(image, call, label, slot, after);
+    let n = calls_of(image);
+    for k in 0..n {
+        let next = call(image, k, label, slot, seed, after);
         after = next;
     }
     after
 }
 
-// Makes a call and counts it; where it has a fault it is printed.
-pub fn tried(image: &Image, call: usize, label: &[u8], slot: usize, tally: Tally) -> Tally {
-    let fault = rounds::tried(image, call, label, slot);
+// Makes call `k` with a slot; the last two set a right charge and a wrong one.
+pub fn call(image: &Image, k: usize, label: &[u8], slot: usize, seed: u64, tally: Tally) -> Tally {
+    if k < SET_CHARGE {
+        return tried(image, k, label, slot, ANY_REFUSAL, tally);
+    }
+    let draw = numbers::mixed_seed(seed, k);
+    let charge = match k {
+        SET_CHARGE => charges::right(draw),
+        _ => charges::wrong(draw),
+    };
+    tried(image, SET_CHARGE, label, charge, ANY_REFUSAL, tally)
+}
+
+// Makes a call that is to have a refusal's number, with a slot, a value or a charge, and counts it; where it has a
+// fault it is printed.
+pub fn tried(
+    image: &Image,
+    call: usize,
+    label: &[u8],
+    number: usize,
+    refusal: usize,
+    tally: Tally,
+) -> Tally {
+    let round = rounds::tried(image, call, label, number);
+    let fault = sequences::fault_of(round, refusal);
     if fault > 0 {
         tallies::print_mismatch(call, label, fault);
     }

@@ -2,6 +2,7 @@
 // from a fixed generator, damaged memory and memory of other lengths. One line is printed for each group, and one for
 // each call that does not agree: the expected output has none.
 mod damage;
+mod edges;
 mod lent;
 mod sequences;
 
@@ -11,6 +12,7 @@ use images::sizes;
 use images::sizes::Sizes;
 use plainmap::lists::Lists;
 use plans::groups;
+use plans::groups::Plan;
 
 fn main() {
     run_index(sizes::hub());
@@ -20,21 +22,25 @@ fn main() {
 // All groups on the index of these sizes.
 fn run_index(sizes: Sizes) {
     let mut image = memory::fresh(sizes);
-    let mut map = [0u16; 35397];
+    let mut map = [0u16; 35910];
     run(&mut image, &mut map);
     lent::run(&image);
+    edges::run(&image);
 }
 
 fn run(image: &mut Image, map: &mut Lists) {
     for group in 0..groups::GROUPS {
-        sequences::run(image, map, group);
-        damage_if(image, group);
+        let plan = groups::plan_of(group, memory::entry(image, memory::SLOTS));
+        run_plan(image, map, plan);
     }
 }
 
-// The damaged memories of a table that a group prepared.
-fn damage_if(image: &Image, group: usize) {
-    let plan = groups::plan_of(group, memory::entry(image, memory::SLOTS));
+// A group, and the damaged memories of a table that it prepared; nothing where the index does not have its calls.
+fn run_plan(image: &mut Image, map: &mut Lists, plan: Plan) {
+    if groups::is_hubs(plan) & memory::is_page(image) {
+        return;
+    }
+    sequences::run(image, map, plan);
     if plan.way == groups::PREPARED {
         damage::run(image, plan.shape);
     }

@@ -4,17 +4,18 @@ use images::memory::Image;
 use plainmap::lists::Lists;
 use plans::groups;
 use plans::groups::Plan;
-use plans::groups::Planned;
+use plans::planned::ANY_REFUSAL;
+use plans::planned::Planned;
 use reports::Round;
 use reports::faults;
 use reports::tallies;
 use reports::tallies::Tally;
+use samples::calls::SET_CHARGE;
 use samples::numbers;
 use samples::shapes;
 
 // Makes a group's calls on an empty index and map, and prints its line.
-pub fn run(image: &mut Image, map: &mut Lists, group: usize) {
-    let plan = groups::plan_of(group, memory::entry(image, memory::SLOTS));
+pub fn run(image: &mut Image, map: &mut Lists, plan: Plan) {
     rounds::calls::make(image, samples::calls::LAYOUT, b"", 0);
     plainmap::clear(
         map,
@@ -42,9 +43,17 @@ fn call(image: &mut Image, map: &mut Lists, planned: Planned, tally: Tally) -> T
     let mut label = [0u8; 66];
     let width = memory::entry(image, memory::WIDTH);
     let n = shapes::write(&mut label, width, planned.shape, planned.label);
-    let value = numbers::value(planned.label, tallies::get(tally, tallies::INSERTED));
-    let round = labelled(image, map, planned, shapes::opening(&label, n), value);
+    let number = number_of(planned, tallies::get(tally, tallies::INSERTED));
+    let round = labelled(image, map, planned, shapes::opening(&label, n), number);
     tallies::count(tally, planned.call, round, plainmap::held(map))
+}
+
+// The charge of a call that sets one; of any other a value, after so many inserts.
+fn number_of(planned: Planned, inserted: usize) -> usize {
+    if planned.call == SET_CHARGE {
+        return planned.charge;
+    }
+    numbers::value(planned.label, inserted)
 }
 
 // Makes a call on a label; where it has a fault it is printed.
@@ -53,9 +62,9 @@ fn labelled(
     map: &mut Lists,
     planned: Planned,
     label: &[u8],
-    value: usize,
+    number: usize,
 ) -> Round {
-    let mut round = rounds::made(image, map, planned.call, label, value);
+    let mut round = rounds::made(image, map, planned.call, label, number);
     let fault = fault_of(round, planned.refusal);
     if fault > 0 {
         tallies::print_mismatch(planned.call, label, fault);
@@ -65,8 +74,8 @@ fn labelled(
 }
 
 // The fault of a call that was to have a refusal's number.
-fn fault_of(round: Round, refusal: usize) -> usize {
-    if refusal != groups::ANY_REFUSAL {
+pub fn fault_of(round: Round, refusal: usize) -> usize {
+    if refusal != ANY_REFUSAL {
         if refusal != round.refusal {
             return faults::CASE;
         }

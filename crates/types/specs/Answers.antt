@@ -1,8 +1,9 @@
 -- What a call answers, in the numbers of document 01 ('Updates' and 'Where each call turns away').
 use Prim.Native.Nat.{ℕ}
 use Rattle.types.specs.declared.Refusal.{Refusal}
-use Rattle.types.specs.declared.Refusal.the-variants.{WrongTable, WrongStore, EmptyLabel, LongLabel, WrongSlot}
-use Rattle.types.specs.declared.Refusal.the-variants.{BrokenWalk, NotSound, AlreadyHeld, NotHeld, Full, ShortList}
+use Rattle.types.specs.declared.Refusal.the-variants.{WrongTable, WrongStore, EmptyLabel, LongLabel, WrongCharge}
+use Rattle.types.specs.declared.Refusal.the-variants.{WrongSlot, BrokenWalk, NotSound, AlreadyHeld, NotHeld, Full}
+use Rattle.types.specs.declared.Refusal.the-variants.{ShortList}
 use Rattle.types.specs.declared.SearchAnswer as search
 use Rattle.types.specs.declared.UpdateAnswer as update
 use Rattle.types.specs.declared.DoneAnswer as plain
@@ -11,7 +12,7 @@ use Rattle.types.specs.declared.ListAnswer as list
 -- "A search answer is one of found with slot, value and both counts, absent with both counts, or a refusal; a delete or
 -- insert gives the slot and its search's counts"; layout, the check and the view's first call "answer only that they
 -- are done"; a listing "gives their number". With absent go "the slots of the nearest smaller and nearest larger held
--- labels, 0 for none" (M-107 of document 02).
+-- labels, 0 for none" (M-107 of document 02). The call that sets a charge "answers as delete does" (M-109).
 pub data Answer : Type 0 where
   found : (slot value visits places : ℕ) → Answer
   absent : (below above visits places : ℕ) → Answer
@@ -20,7 +21,7 @@ pub data Answer : Type 0 where
   done : Answer
   refused : (number : ℕ) → Answer
 
--- the column 'No.' of the table of refusals
+-- the column 'No.' of the table of refusals, and M-109's "24, a charge neither 0 to 100 nor 255"
 abbrev pub refusalNumber : Refusal → ℕ
 refusalNumber WrongTable = 1
 refusalNumber WrongStore = 2
@@ -33,6 +34,7 @@ refusalNumber NotHeld = 8
 refusalNumber Full = 9
 refusalNumber ShortList = 10
 refusalNumber WrongSlot = 11
+refusalNumber WrongCharge = 24
 
 abbrev pub searchSays : search.SearchAnswer → Answer
 searchSays (search.the-variants.Found slot value visits places) = found slot value visits places

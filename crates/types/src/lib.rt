@@ -19,7 +19,7 @@ pub struct Row {
     pub balance: u16,
     pub len: u16,
     pub value: u16,
-    pub spare: u16,
+    pub charge: u16,
 }
 
 // Why a call is refused, in the order in which the reasons are looked for.
@@ -28,6 +28,7 @@ pub enum Refusal {
     WrongStore,
     EmptyLabel,
     LongLabel,
+    WrongCharge,
     WrongSlot,
     BrokenWalk,
     NotSound,
@@ -53,6 +54,7 @@ pub fn number_of(refusal: Refusal) -> usize
         Refusal::Full => 9,
         Refusal::ShortList => 10,
         Refusal::WrongSlot => 11,
+        Refusal::WrongCharge => 24,
     }
 }
 
@@ -73,7 +75,7 @@ pub enum SearchAnswer {
     Refused(Refusal),
 }
 
-// What an insert or a delete says: the label's slot, and the counts of the search that it made.
+// What an insert, a delete or a charge set says: the label's slot, and the counts of the search that it made.
 pub enum UpdateAnswer {
     Updated {
         slot: usize,

@@ -45,8 +45,8 @@ module _ (t : List ℕ) (b : ℕ) (r : Row) (fits : b + 8 ≤ length t) where
       simp (above, tt {0}) (back with-balance 5 (r .len) (simp length-set) (omega arith)) in
       let value-back : getD (putFrom t b r) (b + 6) 0 ≡ r .value =
       simp (above, tt {0}) (back with-len 6 (r .value) (simp length-set) (omega arith)) in
-      let spare-back : getD (putFrom t b r) (b + 7) 0 ≡ r .spare =
-      back with-value 7 (r .spare) (simp length-set) (omega arith) in
+      let charge-back : getD (putFrom t b r) (b + 7) 0 ≡ r .charge =
+      back with-value 7 (r .charge) (simp length-set) (omega arith) in
       λ i. record {
         left = left-back i;
         right = right-back i;
@@ -55,7 +55,7 @@ module _ (t : List ℕ) (b : ℕ) (r : Row) (fits : b + 8 ≤ length t) where
         balance = balance-back i;
         len = len-back i;
         value = value-back i;
-        spare = spare-back i;
+        charge = charge-back i;
       }
 
 -- a word outside the eight that are stored from b
@@ -68,7 +68,7 @@ outside t b i r h =
     let not-balance : i ≢ b + 4 = h 4 (omega arith) in
     let not-len : i ≢ b + 5 = h 5 (omega arith) in
     let not-value : i ≢ b + 6 = h 6 (omega arith) in
-    let not-spare : i ≢ b + 7 = h 7 (omega arith) in
+    let not-charge : i ≢ b + 7 = h 7 (omega arith) in
     simp getD-set-other
 
 pub length-put-row : (t : List ℕ) (k : ℕ) (r : Row) → length (putRow t k r) ≡ length t
@@ -90,7 +90,7 @@ row-put-other t k j r p q n =
       balance = at 4 (omega arith) i;
       len = at 5 (omega arith) i;
       value = at 6 (omega arith) i;
-      spare = at 7 (omega arith) i;
+      charge = at 7 (omega arith) i;
     }
   where
     apart : (m x : ℕ) → m < 8 → x < 8 → slotStart j + m ≡ slotStart k + x → ⊥
@@ -105,10 +105,10 @@ row-put-other t k j r p q n =
 pub slot-put : (t : List ℕ) (k j : ℕ) (r : Row) → HasRow t j → HasRow (putRow t k r) j
 slot-put t k j r h = record { low = h .low; high = rw length-put-row (h .high) }
 
--- eight stores in turn store a row
-pub stored-in-turn : (t : List ℕ) (k : ℕ) (r : Row) {b : ℕ} {t0 t1 t2 t3 t4 t5 t6 t7 : List ℕ} → b ≡ slotStart k
-    → t0 ≡ set t b (r .left) → t1 ≡ set t0 (b + 1) (r .right) → t2 ≡ set t1 (b + 2) (r .place)
+-- eight stores in turn, the last of them word 7's, store a row
+pub stored-in-turn : (t : List ℕ) (k : ℕ) (r : Row) {b last : ℕ} {t0 t1 t2 t3 t4 t5 t6 t7 : List ℕ} → b ≡ slotStart k
+    → last ≡ b + 7 → t0 ≡ set t b (r .left) → t1 ≡ set t0 (b + 1) (r .right) → t2 ≡ set t1 (b + 2) (r .place)
     → t3 ≡ set t2 (b + 3) (r .side) → t4 ≡ set t3 (b + 4) (r .balance) → t5 ≡ set t4 (b + 5) (r .len)
-    → t6 ≡ set t5 (b + 6) (r .value) → t7 ≡ set t6 (b + 7) (r .spare) → t7 ≡ putRow t k r
+    → t6 ≡ set t5 (b + 6) (r .value) → t7 ≡ set t6 last (r .charge) → t7 ≡ putRow t k r
 unfolding putRow
-stored-in-turn t k r start left right place side balance len value spare = cc
+stored-in-turn t k r start end left right place side balance len value charge = cc

@@ -10,7 +10,7 @@ abbrev pub putFrom : List ℕ → ℕ → Row → List ℕ
 putFrom table b r =
     let links = set (set table b (r .left)) (b + 1) (r .right) in
     let fields = set (set (set links (b + 2) (r .place)) (b + 3) (r .side)) (b + 4) (r .balance) in
-    set (set (set fields (b + 5) (r .len)) (b + 6) (r .value)) (b + 7) (r .spare)
+    set (set (set fields (b + 5) (r .len)) (b + 6) (r .value)) (b + 7) (r .charge)
 
 unfoldable pub putRow : List ℕ → ℕ → Row → List ℕ
 putRow table k r = putFrom table (slotStart k) r

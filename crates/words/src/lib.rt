@@ -1,5 +1,6 @@
 // The lent memory: the rows of a table (the eight words of a slot, read and written as one value), and the parts of a
 // store. Slots are counted from 1.
+pub mod charge;
 pub mod parts;
 pub mod total;
 
@@ -22,7 +23,7 @@ pub fn read_row(table: &[u16], slot: usize) -> Row
         balance: table[base + 4],
         len: table[base + 5],
         value: table[base + 6],
-        spare: table[base + 7],
+        charge: table[base + 7],
     }
 }
 
@@ -39,5 +40,5 @@ pub fn write_row(table: &mut [u16], slot: usize, row: Row)
     table[base + 4] = row.balance;
     table[base + 5] = row.len;
     table[base + 6] = row.value;
-    table[base + 7] = row.spare;
+    table[base + 7] = row.charge;
 }

@@ -50,7 +50,7 @@ pub fn row_of(table: &[u16], slot: u16) -> Row
         balance: word(table, base + 4),
         len: word(table, base + 5),
         value: word(table, base + 6),
-        spare: word(table, base + 7),
+        charge: word(table, base + 7),
     }
 }
 
@@ -66,7 +66,7 @@ pub fn put_row(table: &mut [u16], slot: u16, row: Row)
     set_word(table, base + 4, row.balance);
     set_word(table, base + 5, row.len);
     set_word(table, base + 6, row.value);
-    set_word(table, base + 7, row.spare);
+    set_word(table, base + 7, row.charge);
 }
 
 // Where a slot's part of a store starts; slot 0 is taken for slot 1.

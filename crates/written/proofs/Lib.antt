@@ -7,3 +7,4 @@ pub mod Slots
 pub mod Readings
 pub mod Sounds
 pub mod Held
+pub mod Charged

@@ -1,4 +1,5 @@
 -- Which row and which label of a tree a slot has.
+-- `other-slot`: a number that is not counted as another is another.
 -- `row-elsewhere`, `label-elsewhere`, `chain-elsewhere`: none where the slot does not occur.
 -- `Place`: what a slot holds. `PlacedTree`: each node of a tree in its own slot.
 -- `placed-tree`: with each slot once, a tree that is looked up slot by slot has each node in its own slot.
@@ -19,7 +20,7 @@ use Rattle.trees.proofs.SlotCounts.{occurrences-of-node}
 use Rattle.tables.specs.Written.{firstOf, nodeRow, freeRow, treeRow, chainRow, treeLabel}
 
 -- A number that is not counted as another is another.
-other-slot : (k j : ℕ) → oneIf (eqb k j) ≡ 0 → eqb k j ≡ false
+pub other-slot : (k j : ℕ) → oneIf (eqb k j) ≡ 0 → eqb k j ≡ false
 other-slot k j none = go (eqb k j) none
   where
     go : (b : Bool) → oneIf b ≡ 0 → b ≡ false

@@ -47,7 +47,12 @@ module _ (limits : Limits) (table : List ℕ) where
   entry-of-held store {e} there =
       let label : labelAt limits store (e .slot) (rowAt table (e .slot) .len) ≡ e .label =
       rw (there .row) (there .label) in
-      λ i. record { label = label i; value = there .row i .value; slot = e .slot }
+      λ i. record {
+        label = label i;
+        value = there .row i .value;
+        slot = e .slot;
+        charge = there .row i .charge;
+      }
 
   -- A represented tree is read back from its link.
   pub read-represented : (store : List ℕ) (p s : Neighbour) (t : Tree) (left : ℕ) → Represents limits table store p s t

@@ -36,7 +36,7 @@ row-by-drop table b = λ i.
       balance = getD-drop b table 4 0 i;
       len = getD-drop b table 5 0 i;
       value = getD-drop b table 6 0 i;
-      spare = getD-drop b table 7 0 i;
+      charge = getD-drop b table 7 0 i;
     }
 
 -- A list of eight words or more starts with a row.

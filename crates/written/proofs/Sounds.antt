@@ -4,16 +4,19 @@
 -- `sound-of-written`: each part of the test holds of a valid state written out.
 use mathlib.Core.Bool.{Bool, true, _&&_}
 use mathlib.Core.List.{List, [], _∷_}
-use mathlib.Core.Path.{_≡_, refl, sym, ap}
+use mathlib.Core.Path.{_≡_, refl, sym, ap, _∙_}
 use Prim.Native.Nat.{ℕ, _≤_}
 use lib.ListN.{length}
 use borrow.Author.Tests.{eq-eqb, le-leb}
 use Rattle.types.specs.declared.Limits.{Limits}
 use Rattle.labels.specs.Neighbours.{Neighbour, none-below, held, none-above}
-use Rattle.trees.specs.Trees.{Entry, Tree, empty, node, labels, slots}
+use Rattle.trees.specs.Trees.{Entry, Tree, empty, node, labels, slots, charges}
+use Rattle.trees.specs.Charges.{isCharge, allCharges}
 use Rattle.trees.specs.Heights.{height}
 use Rattle.trees.specs.Plain.{State}
 use Rattle.trees.specs.Valid.{Valid}
+use Rattle.trees.proofs.Views.{both-true}
+use Rattle.trees.proofs.Charged.{charges-of-node}
 use Rattle.trees.proofs.MapKept.{Fits, fits-of-test}
 use Rattle.tables.specs.Words.{highMark}
 use Rattle.tables.specs.Written.{writtenTable, writtenStore}
@@ -49,11 +52,11 @@ module _ (limits : Limits) (table store : List ℕ) where
       (and (true-prefixes p (held (e .label)) l on-left) (true-prefixes (held (e .label)) s r on-right)))
 
 module _ (limits : Limits) (state : State) where
-  -- A slot with a label that fits is laid out rightly.
+  -- A slot with a label that fits and a charge is laid out rightly.
   used-slot : (p s : Neighbour) (l : Tree) (e : Entry) (r : Tree) → TreeInSlots limits state p s (node l e r)
-      → 1 ≤ length (e .label) → length (e .label) ≤ limits .width
+      → 1 ≤ length (e .label) → length (e .label) ≤ limits .width → isCharge (e .charge) ≡ true
       → usedSlot limits (writtenTable limits state) (writtenStore limits state) (e .slot) ≡ true
-  used-slot p s l e r (own, on-left, on-right) some short =
+  used-slot p s l e r (own, on-left, on-right) some short charge =
       rw (
         row-of-written limits state (e .slot) (own .low) (own .up),
         own .row-there,
@@ -61,17 +64,21 @@ module _ (limits : Limits) (state : State) where
         own .label-there,
       )
       (and (le-leb 1 (length (e .label)) some)
-      (and (le-leb (length (e .label)) (limits .width) short) (zeros-after-label (limits .width) (e .label))))
+      (and (le-leb (length (e .label)) (limits .width) short)
+      (and charge (zeros-after-label (limits .width) (e .label)))))
 
   -- Nodes in their slots are laid out rightly.
   pub used-of-placed : (p s : Neighbour) (t : Tree) → TreeInSlots limits state p s t → Fits (limits .width) (labels t)
+      → allCharges (charges t) ≡ true
       → usedSlots limits (writtenTable limits state) (writtenStore limits state) t ≡ true
-  used-of-placed p s empty placed fits = refl
-  used-of-placed p s (node l e r) (own, on-left, on-right) fits =
+  used-of-placed p s empty placed fits charged = refl
+  used-of-placed p s (node l e r) (own, on-left, on-right) fits charged =
       let parts = parts-of-fits l e r fits in
-      and (used-slot p s l e r (own, on-left, on-right) (parts .some) (parts .short))
-      (and (used-of-placed p (held (e .label)) l on-left (parts .on-left))
-      (used-of-placed (held (e .label)) s r on-right (parts .on-right)))
+      let (charged-l, others) = both-true (allCharges (charges l)) _ .0 (sym (charges-of-node l e r) ∙ charged) in
+      let (charge, charged-r) = both-true (isCharge (e .charge)) _ .0 others in
+      and (used-slot p s l e r (own, on-left, on-right) (parts .some) (parts .short) charge)
+      (and (used-of-placed p (held (e .label)) l on-left (parts .on-left) charged-l)
+      (used-of-placed (held (e .label)) s r on-right (parts .on-right) charged-r))
 
   -- Freed slots in their chain are laid out rightly.
   pub freed-of-placed : (freed : List ℕ) → ChainInSlots limits state freed
@@ -106,7 +113,7 @@ module _ (limits : Limits) (state : State) where
     unfolding wordsAndBytes
     words-and-bytes =
         and (used-of-placed none-below none-above (state .tree) (tree-placed limits state valid)
-        (fits-of-test (limits .width) (labels (state .tree)) (valid .fitting)))
+        (fits-of-test (limits .width) (labels (state .tree)) (valid .fitting)) (valid .charges-fit))
         (and (freed-of-placed (state .freed) (chain-placed limits state valid)) unused-of-written)
 
     -- The nodes number the labels held, at most the slots.

@@ -9,16 +9,19 @@ abbrev Inv-loop : tie.InvT-loop
 Inv-loop image₀ map₀ group₀ image map group = group₀ ≤ group
 
 abbrev μ-loop : tie.MeasureT-loop
-μ-loop image₀ map₀ group₀ image map group = 20 - group
+μ-loop image₀ map₀ group₀ image map group = 25 - group
 
 loop-holds : tie.Need-loop-holds Inv-loop μ-loop
 loop-holds c = search needs
 
-run-requires : tie.Need-run-requires Inv-loop μ-loop
-run-requires c κs = search needs
+entry-requires : tie.Need-entry-requires Inv-loop μ-loop
+entry-requires c κs = search needs
 
-damage-if-requires : tie.Need-damage-if-requires Inv-loop μ-loop
-damage-if-requires c κs = search needs
+plan-of-requires : tie.Need-plan-of-requires Inv-loop μ-loop
+plan-of-requires c κs = search needs
+
+run-plan-requires : tie.Need-run-plan-requires Inv-loop μ-loop
+run-plan-requires c κs = search needs
 
 add-group : tie.Need-add-group Inv-loop μ-loop
 add-group c = search needs
@@ -39,8 +42,9 @@ run-spec =
     Inv-loop
     μ-loop
     loop-holds
-    run-requires
-    damage-if-requires
+    entry-requires
+    plan-of-requires
+    run-plan-requires
     add-group
     loop-less
     loop-again

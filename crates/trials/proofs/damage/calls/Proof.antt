@@ -6,19 +6,22 @@ use Rattle.trials.proofs.damage.calls.Statement.{statement}
 use Rattle.trials.proofs.damage.calls.Tie as tie
 
 abbrev Inv-loop : tie.InvT-loop
-Inv-loop image label slot after₀ call₀ after call = call₀ ≤ call
+Inv-loop image label slot seed after₀ n k₀ after k = k₀ ≤ k
 
 abbrev μ-loop : tie.MeasureT-loop
-μ-loop image label slot after₀ call₀ after call = 8 - call
+μ-loop image label slot seed after₀ n k₀ after k = n - k
+
+calls-of-requires : tie.Need-calls-of-requires Inv-loop μ-loop
+calls-of-requires c κs = search needs
 
 loop-holds : tie.Need-loop-holds Inv-loop μ-loop
 loop-holds c = search needs
 
-tried-requires : tie.Need-tried-requires Inv-loop μ-loop
-tried-requires c κs = search needs
+call-requires : tie.Need-call-requires Inv-loop μ-loop
+call-requires c κs = search needs
 
-add-call : tie.Need-add-call Inv-loop μ-loop
-add-call c = search needs
+add-k : tie.Need-add-k Inv-loop μ-loop
+add-k c = search needs
 
 loop-less : tie.Need-loop-less Inv-loop μ-loop
 loop-less c = search needs
@@ -32,4 +35,13 @@ returns c = search needs
 pub calls-spec : {M : Type 1} → statement M
 calls-spec =
     tie.close
-    (tie.spec Inv-loop μ-loop loop-holds tried-requires add-call loop-less loop-again returns)
+    (tie.spec
+    Inv-loop
+    μ-loop
+    calls-of-requires
+    loop-holds
+    call-requires
+    add-k
+    loop-less
+    loop-again
+    returns)

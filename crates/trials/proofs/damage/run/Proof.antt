@@ -9,7 +9,7 @@ abbrev Inv-loop : tie.InvT-loop
 Inv-loop image shape kind₀ kind = kind₀ ≤ kind
 
 abbrev μ-loop : tie.MeasureT-loop
-μ-loop image shape kind₀ kind = 10 - kind
+μ-loop image shape kind₀ kind = 12 - kind
 
 loop-holds : tie.Need-loop-holds Inv-loop μ-loop
 loop-holds c = search needs

@@ -9,7 +9,7 @@ abbrev Inv-loop : tie.InvT-loop
 Inv-loop image tally₀ k₀ tally k = k₀ ≤ k
 
 abbrev μ-loop : tie.MeasureT-loop
-μ-loop image tally₀ k₀ tally k = 336 - k
+μ-loop image tally₀ k₀ tally k = 420 - k
 
 none-requires : tie.Need-none-requires Inv-loop μ-loop
 none-requires c κs = search needs

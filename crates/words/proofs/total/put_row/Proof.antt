@@ -1,5 +1,6 @@
 -- `words::total::put_row` meets its contract. The eight stores in turn store the row.
 use Rattle.words.proofs.Laws.{stored-in-turn}
+use native.Mathlib.Omega.{arith}
 use borrow.Author.Needs.{needs}
 use Rattle.words.proofs.total.put_row.Statement.{statement}
 use Rattle.words.proofs.total.put_row.Tie as tie
@@ -57,8 +58,8 @@ same-length c = search needs
 
 returns : tie.Need-returns
 returns c =
-    let spare = c .before .before in
-    let value = spare .before .before .before .before in
+    let charge = c .before .before in
+    let value = charge .before .before .before .before in
     let len = value .before .before .before .before in
     let balance = len .before .before .before .before in
     let side = balance .before .before .before .before in
@@ -68,9 +69,9 @@ returns c =
     let start = left .before .before in
     let at-entry = start .before .before .args in
     stored-in-turn (at-entry .table .now) (at-entry .slot) (at-entry .row)
-    (start .row-start .ensures) (left .set-word .ensures)
+    (start .row-start .ensures) (omega arith) (left .set-word .ensures)
     (right .set-word2 .ensures) (place .set-word3 .ensures) (side .set-word4 .ensures) (balance .set-word5 .ensures)
-    (len .set-word6 .ensures) (value .set-word7 .ensures) (spare .set-word8 .ensures)
+    (len .set-word6 .ensures) (value .set-word7 .ensures) (charge .set-word8 .ensures)
 
 pub put-row-spec : {M : Type 1} → statement M
 put-row-spec =

@@ -1,9 +1,9 @@
--- `images::memory::words_of` is safe and ends. The loop's invariant: its counter is not below its start. The measure
+-- `images::memory::read_words` is safe and ends. The loop's invariant: its counter is not below its start. The measure
 -- is what is left of the range. Assumes nothing.
 use Prim.Native.Nat.{_≤_, _-_}
 use borrow.Author.Needs.{needs}
-use Rattle.images.proofs.memory.words_of.Statement.{statement}
-use Rattle.images.proofs.memory.words_of.Tie as tie
+use Rattle.images.proofs.memory.read_words.Statement.{statement}
+use Rattle.images.proofs.memory.read_words.Tie as tie
 
 abbrev Inv-loop : tie.InvT-loop
 Inv-loop image words₀ i₀ words i = i₀ ≤ i
@@ -26,8 +26,8 @@ element-copy-out-words c = search needs
 mul-words-2 : tie.Need-mul-words-2 Inv-loop μ-loop
 mul-words-2 c = search needs
 
-array-write-words : tie.Need-array-write-words Inv-loop μ-loop
-array-write-words c = search needs
+element-write-words : tie.Need-element-write-words Inv-loop μ-loop
+element-write-words c = search needs
 
 add-i : tie.Need-add-i Inv-loop μ-loop
 add-i c = search needs
@@ -41,8 +41,8 @@ loop-again c = search needs
 returns : tie.Need-returns Inv-loop μ-loop
 returns c = search needs
 
-pub words-of-spec : {M : Type 1} → statement M
-words-of-spec =
+pub read-words-spec : {M : Type 1} → statement M
+read-words-spec =
     tie.close
     (tie.spec
     Inv-loop
@@ -52,7 +52,7 @@ words-of-spec =
     mul-words
     element-copy-out-words
     mul-words-2
-    array-write-words
+    element-write-words
     add-i
     loop-less
     loop-again

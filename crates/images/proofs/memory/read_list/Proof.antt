@@ -1,9 +1,9 @@
--- `images::memory::list_of` is safe and ends. The loop's invariant: its counter is not below its start. The measure is
--- what is left of the range. Assumes nothing.
+-- `images::memory::read_list` is safe and ends. The loop's invariant: its counter is not below its start. The measure
+-- is what is left of the range. Assumes nothing.
 use Prim.Native.Nat.{_≤_, _-_}
 use borrow.Author.Needs.{needs}
-use Rattle.images.proofs.memory.list_of.Statement.{statement}
-use Rattle.images.proofs.memory.list_of.Tie as tie
+use Rattle.images.proofs.memory.read_list.Statement.{statement}
+use Rattle.images.proofs.memory.read_list.Tie as tie
 
 abbrev Inv-loop : tie.InvT-loop
 Inv-loop image list₀ i₀ list i = i₀ ≤ i
@@ -26,8 +26,8 @@ element-copy-out-list c = search needs
 mul-list-2 : tie.Need-mul-list-2 Inv-loop μ-loop
 mul-list-2 c = search needs
 
-array-write-list : tie.Need-array-write-list Inv-loop μ-loop
-array-write-list c = search needs
+element-write-list : tie.Need-element-write-list Inv-loop μ-loop
+element-write-list c = search needs
 
 add-i : tie.Need-add-i Inv-loop μ-loop
 add-i c = search needs
@@ -41,8 +41,8 @@ loop-again c = search needs
 returns : tie.Need-returns Inv-loop μ-loop
 returns c = search needs
 
-pub list-of-spec : {M : Type 1} → statement M
-list-of-spec =
+pub read-list-spec : {M : Type 1} → statement M
+read-list-spec =
     tie.close
     (tie.spec
     Inv-loop
@@ -52,7 +52,7 @@ list-of-spec =
     mul-list
     element-copy-out-list
     mul-list-2
-    array-write-list
+    element-write-list
     add-i
     loop-less
     loop-again

@@ -1,9 +1,9 @@
--- `images::memory::bytes_of` is safe and ends. The loop's invariant: its counter is not below its start. The measure
+-- `images::memory::read_bytes` is safe and ends. The loop's invariant: its counter is not below its start. The measure
 -- is what is left of the range. Assumes nothing.
 use Prim.Native.Nat.{_≤_, _-_}
 use borrow.Author.Needs.{needs}
-use Rattle.images.proofs.memory.bytes_of.Statement.{statement}
-use Rattle.images.proofs.memory.bytes_of.Tie as tie
+use Rattle.images.proofs.memory.read_bytes.Statement.{statement}
+use Rattle.images.proofs.memory.read_bytes.Tie as tie
 
 abbrev Inv-loop : tie.InvT-loop
 Inv-loop image bytes₀ i₀ bytes i = i₀ ≤ i
@@ -26,8 +26,8 @@ element-copy-out-bytes c = search needs
 cast-bytes : tie.Need-cast-bytes Inv-loop μ-loop
 cast-bytes c = search needs
 
-array-write-bytes : tie.Need-array-write-bytes Inv-loop μ-loop
-array-write-bytes c = search needs
+element-write-bytes : tie.Need-element-write-bytes Inv-loop μ-loop
+element-write-bytes c = search needs
 
 add-i : tie.Need-add-i Inv-loop μ-loop
 add-i c = search needs
@@ -41,8 +41,8 @@ loop-again c = search needs
 returns : tie.Need-returns Inv-loop μ-loop
 returns c = search needs
 
-pub bytes-of-spec : {M : Type 1} → statement M
-bytes-of-spec =
+pub read-bytes-spec : {M : Type 1} → statement M
+read-bytes-spec =
     tie.close
     (tie.spec
     Inv-loop
@@ -52,7 +52,7 @@ bytes-of-spec =
     mul-bytes
     element-copy-out-bytes
     cast-bytes
-    array-write-bytes
+    element-write-bytes
     add-i
     loop-less
     loop-again

@@ -1,0 +1,2 @@
+pub mod FirstTests
+pub mod Lands

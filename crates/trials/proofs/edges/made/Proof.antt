@@ -1,0 +1,47 @@
+-- `trials::edges::made` is safe and ends. The loop's invariant: its counter is not below its start. The measure is what
+-- is left of the range. Assumes nothing.
+use Prim.Native.Nat.{_≤_, _-_}
+use borrow.Author.Needs.{needs}
+use Rattle.trials.proofs.edges.made.Statement.{statement}
+use Rattle.trials.proofs.edges.made.Tie as tie
+
+abbrev Inv-loop : tie.InvT-loop
+Inv-loop image tally₀ k₀ tally k = k₀ ≤ k
+
+abbrev μ-loop : tie.MeasureT-loop
+μ-loop image tally₀ k₀ tally k = 220 - k
+
+none-requires : tie.Need-none-requires Inv-loop μ-loop
+none-requires c κs = search needs
+
+loop-holds : tie.Need-loop-holds Inv-loop μ-loop
+loop-holds c = search needs
+
+on-memory-requires : tie.Need-on-memory-requires Inv-loop μ-loop
+on-memory-requires c κs = search needs
+
+add-k : tie.Need-add-k Inv-loop μ-loop
+add-k c = search needs
+
+loop-less : tie.Need-loop-less Inv-loop μ-loop
+loop-less c = search needs
+
+loop-again : tie.Need-loop-again Inv-loop μ-loop
+loop-again c = search needs
+
+returns : tie.Need-returns Inv-loop μ-loop
+returns c = search needs
+
+pub made-spec : {M : Type 1} → statement M
+made-spec =
+    tie.close
+    (tie.spec
+    Inv-loop
+    μ-loop
+    none-requires
+    loop-holds
+    on-memory-requires
+    add-k
+    loop-less
+    loop-again
+    returns)
