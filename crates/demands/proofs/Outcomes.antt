@@ -18,8 +18,8 @@ use Rattle.trees.specs.Trees.{size}
 use Rattle.trees.specs.Heights.{Deepest}
 use Rattle.trees.specs.Searches.{Held, absent, found, Search, fullSearch, slotOf}
 use Rattle.trees.specs.Plain.{State, Call, search, insert, delete, set-charge, soughtBy, wrongCharge, After}
-use Rattle.trees.specs.Plain.{afterSearch, newEntry, insertIfRoom, afterInsert, afterDelete, afterCharge, afterFullSearch}
-use Rattle.trees.specs.Plain.{afterArguments, afterLength, plainStep}
+use Rattle.trees.specs.Plain.{afterSearch, newEntry, insertIfRoom, afterInsert, afterDelete, afterCharge}
+use Rattle.trees.specs.Plain.{afterFullSearch, afterArguments, afterLength, plainStep}
 use Rattle.trees.specs.Valid.{Valid}
 use Rattle.tables.specs.Written.{Memory, written, writtenTable, writtenStore}
 use Rattle.tables.specs.Steps.{Walk, ended, searchSteps}

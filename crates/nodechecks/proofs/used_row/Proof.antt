@@ -21,7 +21,8 @@ part-zero-requires c κs =
     let start = subtracted .before .before .before in
     let fits = start .pre .0 in
     let within =
-    rest-within _ _ _ (subtracted .wrapping-sub-usize .ensures) (start .pre .1) (omega (arith, subtracted .before .struct-known .given)) (c .if1 .left) in
+    rest-within _ _ _ (subtracted .wrapping-sub-usize .ensures) (start .pre .1)
+    (omega (arith, subtracted .before .struct-known .given)) (c .if1 .left) in
     record { low = fits .low; high = fits .high; within = omega (arith, within .1); whole = fits .whole }
 
 returns-2 : tie.Need-returns-2
@@ -31,7 +32,8 @@ returns-2 c =
     let subtracted = else-1 .before .before in
     let start = subtracted .before .before .before in
     let within =
-    rest-within _ _ _ (subtracted .wrapping-sub-usize .ensures) (start .pre .1) (omega (arith, subtracted .before .struct-known .given)) (else-1 .if1 .left) in
+    rest-within _ _ _ (subtracted .wrapping-sub-usize .ensures) (start .pre .1)
+    (omega (arith, subtracted .before .struct-known .given)) (else-1 .if1 .left) in
     used-bytes _ _ _ _ _ (within .0) (within .1) (tested .part-zero .ensures) (not-true _ (c .if2 .taken))
 
 charge-passes-requires : tie.Need-charge-passes-requires
@@ -45,7 +47,8 @@ returns-3 c =
     let subtracted = else-1 .before .before in
     let start = subtracted .before .before .before in
     let within =
-    rest-within _ _ _ (subtracted .wrapping-sub-usize .ensures) (start .pre .1) (omega (arith, subtracted .before .struct-known .given)) (else-1 .if1 .left) in
+    rest-within _ _ _ (subtracted .wrapping-sub-usize .ensures) (start .pre .1)
+    (omega (arith, subtracted .before .struct-known .given)) (else-1 .if1 .left) in
     used-charge _ _ _ _ _ _ (within .0) (within .1) (tested .part-zero .ensures) (not-false _ (else-2 .if2 .left))
     (c .charge-passes .ensures)
 
