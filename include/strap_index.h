@@ -1,12 +1,12 @@
-/* The strap label index for C99 and C++: the nine calls of the hub's index, in the proved static library `exports`, and
- * the same, but for strap_set_charge, of the pairing page's own small index, in `page_exports`.
+/* The strap label index for C99 and C++: the ten calls of the hub's index, in the proved static library `exports`, and
+ * the same, but for strap_set_charge and strap_save, of the pairing page's own small index, in `page_exports`.
  *
  * Build a library with `rt staticlib exports` or `rt staticlib page_exports`, and link target/staticlib/libexports.a,
  * libpage_exports.a or both (x86-64 Linux).
  *
  * Labels are compared with A to Z as a to z, and kept as they were first spelled.
  *
- * A lent part (table, store, label, list) passes as its pointer and its length in elements. Any length and any content
+ * A lent part (table, store, label, list, output) passes as its pointer and its length in elements. Any length and any content
  * is taken: a call answers, or refuses by a number below; a refused call has changed nothing. The contracts stand in
  * crates/exports/src/lib.rt and crates/page_exports/src/lib.rt, and crates/packs/specs/Packed.antt defines the packing.
  *
@@ -27,6 +27,10 @@
 enum { STRAP_SLOTS = 512, STRAP_WIDTH = 64, STRAP_WORDS = 4100, STRAP_BYTES = 32768 };
 enum { STRAP_PAGE_SLOTS = 32, STRAP_PAGE_WIDTH = 20, STRAP_PAGE_WORDS = 260, STRAP_PAGE_BYTES = 640 };
 
+/* The longest saved file, so an output in which every table can be saved: the number of labels in two bytes, then for
+ * each label its length in one byte, its 64 bytes, and its value in three. */
+enum { STRAP_FILE_BYTES = 34818 };
+
 /* A strap's charge: 0 to 100, or unknown, as an insert leaves it. It is the last of its slot's eight words, which stand
  * from 4 + 8 * (slot - 1) on. */
 enum { STRAP_UNKNOWN_CHARGE = 255 };
@@ -43,7 +47,8 @@ enum strap_kind {
     STRAP_UPDATED = 3, /* places, visits of the call's search; one: the slot taken or freed, or whose charge was set */
     STRAP_DONE = 4,    /* nothing more */
     STRAP_LISTED = 5,  /* one: how many slots were written */
-    STRAP_VIEWED = 6   /* one: where in the store the label begins; other: its length */
+    STRAP_VIEWED = 6,  /* one: where in the store the label begins; other: its length */
+    STRAP_SAVED = 7    /* one: how many bytes were written */
 };
 
 /* Why a call is refused; of those that apply, the first in this order. The sizes are those of the index called. */
@@ -55,11 +60,12 @@ enum strap_refusal {
     STRAP_WRONG_CHARGE = 24, /* a charge neither 0 to 100 nor STRAP_UNKNOWN_CHARGE: set_charge */
     STRAP_WRONG_SLOT = 11,   /* slot 0 or above its slots, or the length word there is 0 or above its width: the view */
     STRAP_BROKEN_WALK = 5,   /* the walk met a link or a row that cannot be: search */
-    STRAP_NOT_SOUND = 6,     /* table and store are not sound: insert, delete, set_charge, check, listing */
+    STRAP_NOT_SOUND = 6,     /* table and store are not sound: insert, delete, set_charge, check, listing, save */
     STRAP_ALREADY_HELD = 7,  /* the label is held already, in this or another spelling: insert */
     STRAP_NOT_HELD = 8,      /* the label is not held: delete, set_charge */
     STRAP_FULL = 9,          /* as many labels are held as it has slots: insert */
-    STRAP_SHORT_LIST = 10    /* list shorter than the labels held: listing */
+    STRAP_SHORT_LIST = 10,   /* list shorter than the labels held: listing */
+    STRAP_SHORT_OUTPUT = 17  /* output shorter than the file: save */
 };
 
 /* ---- the parts of an answer */
@@ -70,7 +76,7 @@ static inline unsigned strap_visits_of(uint64_t answer) { return (unsigned)(answ
 static inline unsigned strap_one_of(uint64_t answer) { return (unsigned)(answer >> 32 & 65535); }
 static inline unsigned strap_other_of(uint64_t answer) { return (unsigned)(answer >> 48 & 65535); }
 
-/* by the kind: refused; found or updated; found; absent; listed; viewed */
+/* by the kind: refused; found or updated; found; absent; listed; viewed; saved */
 static inline unsigned strap_refusal_of(uint64_t answer) { return strap_one_of(answer); }
 static inline unsigned strap_slot_of(uint64_t answer) { return strap_one_of(answer); }
 static inline unsigned strap_value_of(uint64_t answer) { return strap_other_of(answer); }
@@ -79,6 +85,7 @@ static inline unsigned strap_above_of(uint64_t answer) { return strap_other_of(a
 static inline unsigned strap_count_of(uint64_t answer) { return strap_one_of(answer); }
 static inline unsigned strap_start_of(uint64_t answer) { return strap_one_of(answer); }
 static inline unsigned strap_length_of(uint64_t answer) { return strap_other_of(answer); }
+static inline unsigned strap_written_of(uint64_t answer) { return strap_one_of(answer); }
 
 /* ---- the calls; each may answer STRAP_REFUSED, and else what stands above it */
 
@@ -112,13 +119,21 @@ uint64_t strap_check(const uint16_t *table, size_t words, const uint8_t *store, 
 uint64_t strap_listing(const uint16_t *table, size_t words, const uint8_t *store, size_t bytes, uint16_t *list,
                        size_t room);
 
+/* STRAP_SAVED: the file stands at the front of the output; later bytes of it stay. The file is the number of labels,
+ * then for each label in ascending order its length, its bytes as they were first spelled, and its value. Numbers are
+ * written in groups of seven bits, the lowest group first, the top bit set on all groups but the last, and never more
+ * groups than needed; 0 takes one. Charges are not in it. */
+uint64_t strap_save(const uint16_t *table, size_t words, const uint8_t *store, size_t bytes, uint8_t *output,
+                    size_t room);
+
 /* STRAP_DONE: the slot's label can be viewed. */
 uint64_t strap_view_check(const uint16_t *table, size_t words, const uint8_t *store, size_t bytes, size_t slot);
 
 /* STRAP_VIEWED: the slot's label is the part of the lent store from `start` on, `length` bytes long. */
 uint64_t strap_view(const uint16_t *table, size_t words, const uint8_t *store, size_t bytes, size_t slot);
 
-/* The same calls of the page's index, which keeps charges by the same rule and has no call that sets one. */
+/* The same calls of the page's index, which keeps charges by the same rule. It has no call that sets one, and none that
+ * saves. */
 uint64_t strap_page_layout(uint16_t *table, size_t words, uint8_t *store, size_t bytes);
 uint64_t strap_page_search(const uint16_t *table, size_t words, const uint8_t *store, size_t bytes,
                            const uint8_t *label, size_t n);

@@ -7,18 +7,21 @@
 -- hub-true-neighbours: who stands next to a missing label.
 -- hub-shared-limit, hub-length-limit, hub-no-smaller-limit: limits on places, the second from the first.
 -- hub-charge-rule: word 7 on sound tables.
+-- hub-saves-map, hub-saves-within: saved files, and their 34,818 bytes at most.
 use native.Mathlib.Omega.{arith}
 use Rattle.types.specs.Sizes.{hub, page}
 use Rattle.tables.proofs.Depths.{hub-depth}
 use Rattle.tables.specs.Claims.{SoundIsWritten, CostRule}
 use Rattle.tables.specs.MapClaims.{OrderedMap}
 use Rattle.sounds.proofs.SoundIsWritten.{sound-is-written}
+use Rattle.files.specs.Groups.{groupsWithin, groupsOf}
 use Rattle.demands.specs.Counts.{CountsWithin, BreaksAfter}
 use Rattle.demands.specs.OtherMemory.{RefusesTableOf}
 use Rattle.demands.specs.Spellings.{OneName, SpellingStays}
 use Rattle.demands.specs.Ties.{TieSaves}
 use Rattle.demands.specs.NextTo.{TrueNeighbours}
 use Rattle.demands.specs.Charges.{ChargeRule}
+use Rattle.demands.specs.Saves.{SavesMap, SavesWithin}
 use Rattle.demands.specs.PlaceLimits.{SharedLimit, LengthLimit, NoSmallerLimit}
 use Rattle.demands.proofs.CostRule.{cost-rule}
 use Rattle.demands.proofs.OrderedMap.{ordered-map}
@@ -30,6 +33,7 @@ use Rattle.demands.proofs.Spellings.{spelling-stays}
 use Rattle.demands.proofs.Ties.{tie-saves}
 use Rattle.demands.proofs.NextTo.{true-neighbours}
 use Rattle.demands.proofs.ChargeRule.{charge-rule}
+use Rattle.demands.proofs.Saves.{saves-map, saves-within}
 use Rattle.demands.proofs.PlaceLimits.{shared-limit, length-limit}
 use Rattle.demands.proofs.Sharp.{no-smaller-limit}
 
@@ -86,3 +90,12 @@ hub-no-smaller-limit = no-smaller-limit hub hub-depth (omega arith)
 -- On a sound table of the hub, word 7 of a slot in use is a charge, and may be any; in another slot it is 0.
 pub hub-charge-rule : ChargeRule hub
 hub-charge-rule = charge-rule hub hub-depth
+
+-- On a sound table of the hub, a save writes the file of the map, which depends on the labels and the values alone.
+pub hub-saves-map : SavesMap hub
+hub-saves-map = saves-map hub hub-depth
+
+-- Of words of 16 bits, a save of the hub writes at most 34,818 bytes.
+pub hub-saves-within : SavesWithin hub 34818
+unfolding groupsWithin groupsOf
+hub-saves-within = saves-within hub hub-depth

@@ -24,6 +24,7 @@ pub mod NextTo
 pub mod PlaceLimits
 pub mod Sharp
 pub mod ChargeRule
+pub mod Saves
 pub mod Hub
 pub mod Page
 pub mod SoundAfter
@@ -34,3 +35,4 @@ pub mod RefutedUpdates
 pub mod RefutedCalls
 pub mod RefutedLimits
 pub mod RefutedCharges
+pub mod RefutedSaves

@@ -12,6 +12,7 @@ use Rattle.labels.proofs.Numbers.{Eqb, eq-yes, eq-no, eqb-view}
 use Rattle.tables.specs.Outcomes.{Verdict, refuse, line, ofMemory, searchOutcome, checkOutcome, viewOutcome, viewPart}
 use Rattle.tables.specs.Outcomes.{listingOutcome, layoutOutcome, updateOutcome, insertOutcome, deleteOutcome}
 use Rattle.tables.specs.Outcomes.{chargeOutcome}
+use Rattle.files.specs.Saves.{saveOutcome}
 use Rattle.demands.specs.OtherMemory.{AllRefused}
 
 module _ (limits : Limits) (table store : List ℕ) (other : length table ≡ tableLength limits → ⊥) where
@@ -27,7 +28,7 @@ module _ (limits : Limits) (table store : List ℕ) (other : length table ≡ ta
   -- Each call refuses a table of another length by 1.
   pub wrong-table-refused : AllRefused limits table store
   unfolding searchOutcome checkOutcome viewOutcome viewPart listingOutcome layoutOutcome updateOutcome insertOutcome
-      deleteOutcome chargeOutcome
+      deleteOutcome chargeOutcome saveOutcome
   wrong-table-refused = record {
     layout = rw first-refused;
     search = λ x. rw first-refused;
@@ -38,4 +39,5 @@ module _ (limits : Limits) (table store : List ℕ) (other : length table ≡ ta
     listing = λ list. rw first-refused;
     view = λ k. rw first-refused;
     part = λ k. rw first-refused;
+    save = λ output. rw first-refused;
   }

@@ -5,9 +5,11 @@ pub mod Ties
 pub mod NextTo
 pub mod PlaceLimits
 pub mod Charges
+pub mod Saves
 pub mod LimitTrials
 pub mod Trials
 pub mod NeighbourTrials
 pub mod UpdateTrials
 pub mod CallTrials
 pub mod ChargeTrials
+pub mod SaveTrials

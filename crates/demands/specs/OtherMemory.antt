@@ -6,9 +6,11 @@ use lib.ListN.{length}
 use Rattle.types.specs.declared.Limits.{Limits}
 use Rattle.types.specs.Sizes.{tableLength}
 use Rattle.types.specs.Answers.{refused}
+use Rattle.types.specs.SaveReplies as replies
 use Rattle.labels.specs.Labels.{Label}
 use Rattle.tables.specs.Outcomes.{Outcome, Listing, layoutOutcome, searchOutcome, insertOutcome, deleteOutcome}
 use Rattle.tables.specs.Outcomes.{chargeOutcome, checkOutcome, listingOutcome, viewOutcome, viewPart}
+use Rattle.files.specs.Saves.{saveOutcome}
 
 -- refused by 1, with all lent memory as it was
 abbrev pub wrongTable : (table store : List ℕ) → Outcome
@@ -29,6 +31,9 @@ pub record AllRefused (limits : Limits) (table store : List ℕ) : Type 0 where
   pub listing : (list : List ℕ) → listingOutcome limits table store list ≡ wrongTableFor list
   pub view : (k : ℕ) → viewOutcome limits table store k ≡ refused 1
   pub part : (k : ℕ) → viewPart limits table store k ≡ []
+  pub save :
+      (output : List ℕ)
+      → saveOutcome limits table store output ≡ record { answer = replies.refused 1; output = output }
 
 -- The claim: each call of an index refuses another's table by 1, whatever it and the store hold.
 abbrev pub RefusesTableOf : (called other : Limits) → Type 0

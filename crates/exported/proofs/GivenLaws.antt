@@ -1,6 +1,7 @@
 -- What an exported call gives, from what the index gives.
 -- `packed-as`: an answer equal to a defined one is packed as that.
--- `packs-as`, `packs-list-as`: the same for a call that may change the memory, and for a listing.
+-- `packs-as`, `packs-list-as`, `packs-save-as`: the same for a call that may change the memory, for a listing and for a
+-- save.
 -- `start-fits`, `shown-packed`, `hidden-packed`: the view's part, by what the first call said.
 use mathlib.Core.List.{List}
 use mathlib.Core.Path.{_≡_, refl, sym, ap, ap₂, _∙_}
@@ -12,6 +13,7 @@ use Rattle.types.specs.declared.Refusal.{Refusal}
 use Rattle.types.specs.declared.DoneAnswer.{DoneAnswer}
 use Rattle.types.specs.declared.DoneAnswer.the-variants.{Done, Refused}
 use Rattle.types.specs.Answers.{Answer, done, refused, refusalNumber, doneSays}
+use Rattle.types.specs.SaveReplies.{SaveReply}
 use Rattle.tables.specs.Words.{partStart}
 use Rattle.tables.specs.Outcomes.{Outcome, Listing, Verdict, pass, refuse, answerBy, viewVerdict, viewOutcome, viewPart}
 use Rattle.tables.specs.Given.{Gives}
@@ -20,8 +22,9 @@ use Rattle.words.specs.Parts.{StartFits}
 use Rattle.views.proofs.ViewLaws.{view-start}
 use Rattle.lists.specs.Given.{Lists}
 use Rattle.words.specs.Limits.{LimitsFit}
-use Rattle.packs.specs.Packed.{packed, packedPart}
-use Rattle.exported.specs.Given.{viewedBy, packedView, Packs, PacksList}
+use Rattle.files.specs.Saves.{Saving, Saves}
+use Rattle.packs.specs.Packed.{packed, packedSave, packedPart}
+use Rattle.exported.specs.Given.{viewedBy, packedView, Packs, PacksList, PacksSave}
 use Rattle.labels.proofs.Clashes.{clash}
 
 module _ (given : ℕ) where
@@ -41,6 +44,12 @@ module _ (given : ℕ) where
       → Lists listing said words → PacksList listing given words
   packs-list-as listing said words packs lists =
       record { answer = packed-as said (listing .answer) packs (lists .answer); list = lists .list }
+
+  -- The same for a save.
+  pub packs-save-as : (saving : Saving) (said : SaveReply) (bytes : List ℕ) → given ≡ packedSave said
+      → Saves saving said bytes → PacksSave saving given bytes
+  packs-save-as saving said bytes packs saves =
+      record { answer = packs ∙ ap packedSave (saves .answer); output = saves .output }
 
 -- A verdict that passes shows the part, at its start; one that refuses gives its number.
 part-shown : (v : Verdict) (start len : ℕ) → done ≡ answerBy v done

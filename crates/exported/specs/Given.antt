@@ -7,7 +7,8 @@ use Rattle.types.specs.declared.Limits.{Limits}
 use Rattle.types.specs.Answers.{refused}
 use Rattle.tables.specs.Outcomes.{Outcome, Listing, Verdict, pass, refuse, viewVerdict, viewPart}
 use Rattle.views.specs.Parts.{viewStart}
-use Rattle.packs.specs.Packed.{packed, packedPart}
+use Rattle.files.specs.Saves.{Saving}
+use Rattle.packs.specs.Packed.{packed, packedSave, packedPart}
 
 -- a call that may change the table and the store
 pub record Packs (outcome : Outcome) (given : ℕ) (words bytes : List ℕ) : Type 0 where
@@ -19,6 +20,11 @@ pub record Packs (outcome : Outcome) (given : ℕ) (words bytes : List ℕ) : Ty
 pub record PacksList (listing : Listing) (given : ℕ) (words : List ℕ) : Type 0 where
   pub answer : given ≡ packed (listing .answer)
   pub list : words ≡ listing .list
+
+-- a save
+pub record PacksSave (saving : Saving) (given : ℕ) (bytes : List ℕ) : Type 0 where
+  pub answer : given ≡ packedSave (saving .answer)
+  pub output : bytes ≡ saving .output
 
 -- the view's two calls in one number: the part's start and length, or the refusal
 abbrev pub viewedBy : Verdict → (start len : ℕ) → ℕ

@@ -9,7 +9,8 @@ ghost use Rattle.types.specs.Sizes.{hub};
 ghost use Rattle.tables.specs.Outcomes.{layoutOutcome, searchOutcome, insertOutcome, deleteOutcome, checkOutcome};
 ghost use Rattle.tables.specs.Outcomes.{chargeOutcome, listingOutcome, viewOutcome};
 ghost use Rattle.packs.specs.Packed.{packed};
-ghost use Rattle.exported.specs.Given.{packedView, Packs, PacksList};
+ghost use Rattle.files.specs.Saves.{saveOutcome};
+ghost use Rattle.exported.specs.Given.{packedView, Packs, PacksList, PacksSave};
 
 // Lays out an empty table.
 #[no_mangle]
@@ -85,6 +86,16 @@ pub extern "C" fn strap_listing(table: &[u16], store: &[u8], list: &mut [u16]) -
         r (now (list .exit)) ⌝ }
 {
     packs::packed_list(index::listing(table, store, list))
+}
+
+// Writes the file of the labels into the front of a lent output.
+#[no_mangle]
+pub extern "C" fn strap_save(table: &[u16], store: &[u8], output: &mut [u8]) -> usize
+    ensures { λ r. ⌜
+        PacksSave (saveOutcome hub (now (table .entry)) (now (store .entry)) (now (output .entry)))
+        r (now (output .exit)) ⌝ }
+{
+    packs::packed_save(index::save(table, store, output))
 }
 
 // Whether the view of a slot's label is refused.

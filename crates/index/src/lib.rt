@@ -4,16 +4,19 @@ pub mod page;
 
 use types::DoneAnswer;
 use types::ListAnswer;
+use types::SaveAnswer;
 use types::SearchAnswer;
 use types::UpdateAnswer;
 ghost use mathlib.Core.Path.{_≡_};
 ghost use Rattle.types.specs.Sizes.{hub};
 ghost use Rattle.types.specs.Answers.{searchSays, updateSays, doneSays, listSays};
+ghost use Rattle.types.specs.SaveReplies.{saveSays};
 ghost use Rattle.tables.specs.Outcomes.{layoutOutcome, searchOutcome, insertOutcome, deleteOutcome};
 ghost use Rattle.tables.specs.Outcomes.{chargeOutcome, checkOutcome, listingOutcome, viewOutcome};
 ghost use Rattle.tables.specs.Given.{Gives};
 ghost use Rattle.views.specs.Parts.{Views};
 ghost use Rattle.lists.specs.Given.{Lists};
+ghost use Rattle.files.specs.Saves.{saveOutcome, Saves};
 
 // Lays out an empty table: every word and byte becomes 0. Refused by 1 and 2.
 pub fn layout(table: &mut [u16], store: &mut [u8]) -> DoneAnswer
@@ -75,6 +78,16 @@ pub fn listing(table: &[u16], store: &[u8], list: &mut [u16]) -> ListAnswer
         (listSays r) (now (list .exit)) ⌝ }
 {
     lists::listing_within(types::hub(), table, store, list)
+}
+
+// Writes the file of the labels into the front of a lent output, and gives the number of its bytes; later bytes stay.
+// Refused by 1, 2, 6 and 17.
+pub fn save(table: &[u16], store: &[u8], output: &mut [u8]) -> SaveAnswer
+    ensures { λ r. ⌜
+        Saves (saveOutcome hub (now (table .entry)) (now (store .entry)) (now (output .entry)))
+        (saveSays r) (now (output .exit)) ⌝ }
+{
+    saves::save_within(types::hub(), table, store, output)
 }
 
 // Whether the view of a slot's label is refused: by 1, 2 or 11.

@@ -1,23 +1,23 @@
 -- The slots at a link, and the list that they are written into.
 -- `slots-at-depth`, `slots-at-none`, `slots-above`, `slots-at-node`: the slots at a link, by the tests of the walk.
 -- `slots-few`: at most 2 ^ remaining slots, less one.
--- `filled-by-none`, `filled-by-node`: what the walk leaves in the list.
--- `sets-from-start`: stores from the list's start on put the slots before the list's later words.
+-- `fits-whole`, `fits-near`, `fits-far`, `next-fits`: positions stay machine words.
+-- `filled-by-node`: what the walk leaves in the list.
 use mathlib.Core.List.{List, [], _∷_, _++_}
 use mathlib.Core.Bool.{Bool, true, false}
-use mathlib.Core.Path.{_≡_, refl, sym, ap, _∙_}
+use mathlib.Core.Path.{_≡_, refl, ap, _∙_}
 use Prim.Native.Nat.{ℕ, zero, suc, _+_, _-_, _^_, _≤_, _<_}
-use native.Mathlib.Nat.{one-le-pow, pow-le-pow-right, two-pow-succ, zero-add, add-zero, add-suc, suc-add}
-use native.Mathlib.Numerals.{add-one}
+use native.Mathlib.Nat.{one-le-pow, pow-le-pow-right, two-pow-succ}
 use native.Mathlib.Omega.{arith}
 use lib.Dec.{ltb}
-use lib.ListN.{length, set, drop, length-append}
-use lib.Seq.{sets, sets-eq}
+use lib.ListN.{length, set, length-append}
 use borrow.Author.Tests.{lt-ltb, le-ltb}
 use Rattle.types.specs.declared.Limits.{Limits}
 use Rattle.types.specs.declared.Row.{Row}
 use Rattle.tables.specs.Words.{rowAt}
-use Rattle.lists.specs.Listed.{slotsFrom, ListFits, ListReady, Filled}
+use Rattle.words.specs.Filled.{Filled}
+use Rattle.words.proofs.Fills.{filled-by-one, filled-in-turn}
+use Rattle.lists.specs.Listed.{slotsFrom, ListFits, ListReady}
 
 -- two runs of fewer than n, with one more between them, or nothing
 few-or-none : (b : Bool) (xs ys : List ℕ) (k : ℕ) {n : ℕ} → length xs < n → length ys < n
@@ -64,16 +64,6 @@ module _ (limits : Limits) (table : List ℕ) where
       rw two-pow-succ
       (few-or-none (ltb (limits .slots) (suc k)) near far (suc k) (slots-few remaining _) (slots-few remaining _))
 
--- stores of two runs, one after the other
-sets-append : (l : List ℕ) (at : ℕ) (xs ys : List ℕ)
-    → sets l at (xs ++ ys) ≡ sets (sets l at xs) (at + length xs) ys
-sets-append l at [] ys = rw add-zero
-sets-append l at (x ∷ xs) ys = sets-append (set l at x) (suc at) xs ys ∙ rw (suc-add, add-suc)
-
--- a walk that finds no slot leaves the list and the position
-pub filled-by-none : (slots before : List ℕ) (at : ℕ) → slots ≡ [] → Filled slots before at before at
-filled-by-none slots before at e = record { list = rw e; end = rw e (omega arith) }
-
 -- the walk from the root, from the list's start on, stays within the room
 pub fits-whole : (limits : Limits) (table : List ℕ) → ListReady limits table → ListFits limits table 0 (limits .depth)
 fits-whole limits table ready =
@@ -117,13 +107,7 @@ module _ (limits : Limits) (table : List ℕ) (remaining link : ℕ) (row : Row)
   filled-by-node near put far =
       let xs = slotsFrom limits table (remaining - 1) (row .left) in
       let ys = slotsFrom limits table (remaining - 1) (row .right) in
-      let all : slotsFrom limits table remaining link ≡ xs ++ (link ∷ ys) =
-      rw is-row (slots-at-node limits table remaining link deep some high) in
-      let count = length-append xs (link ∷ ys) in
-      record {
-        list = far .list ∙ rw (all, put, near .list, add-one, near .end) (sym (sets-append before at xs (link ∷ ys)));
-        end = rw all (omega arith);
-      }
-
-pub sets-from-start : (l ks : List ℕ) → length ks ≤ length l → sets l 0 ks ≡ ks ++ drop (length ks) l
-sets-from-start l ks h = sets-eq ks l 0 (omega arith) ∙ rw zero-add
+      rw (slots-at-node limits table remaining link deep some high, ← is-row)
+      (filled-in-turn xs (link ∷ ys) before between after at middle next near
+      (filled-in-turn (link ∷ []) ys between stored after middle (middle + 1) next
+      (filled-by-one between stored middle link (middle + 1) put refl) far))

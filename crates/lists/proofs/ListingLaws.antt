@@ -20,12 +20,13 @@ use Rattle.lengths.specs.declared.Early.{Early}
 use Rattle.lengths.specs.declared.Early.the-variants.{Pass, Refused}
 use Rattle.lengths.specs.Early.{earlySays}
 use Rattle.words.specs.Limits.{LimitsFit, SizesFit}
+use Rattle.words.specs.Filled.{Filled}
+use Rattle.words.proofs.Fills.{sets-from-start}
 use Rattle.lengths.proofs.FirstLines.{lines-refused, lines-passed, line-passed, sizes-passed}
 use Rattle.verdicts.specs.Verdicts.{ofWhole}
 use Rattle.verdicts.proofs.WholeTests.{whole-decides}
 use Rattle.lists.specs.Given.{Lists}
-use Rattle.lists.specs.Listed.{slotsListed, listingReady, ListReady, Filled}
-use Rattle.lists.proofs.ListLaws.{sets-from-start}
+use Rattle.lists.specs.Listed.{slotsListed, listingReady, ListReady}
 use Rattle.lists.proofs.SoundLists.{slots-of-sound}
 
 -- what the tests of a whole table decide of the listing

@@ -5,7 +5,6 @@ use mathlib.Core.Path.{_≡_}
 use Prim.Native.Nat.{ℕ, zero, suc, _+_, _^_, _≤_}
 use lib.Dec.{ltb}
 use lib.ListN.{length}
-use lib.Seq.{sets}
 use Rattle.types.specs.declared.Limits.{Limits}
 use Rattle.types.specs.Sizes.{tableLength}
 use Rattle.tables.specs.Words.{rootLink, labelsHeld, rowAt}
@@ -43,8 +42,3 @@ pub record ListFits (limits : Limits) (table : List ℕ) (at remaining : ℕ) : 
   pub fit : LimitsFit limits
   pub words : length table ≡ tableLength limits
   pub room : at + 2 ^ remaining ≤ 2 ^ 64
-
--- the slots stand in the list from a position on, and the next position follows them
-pub record Filled (slots before : List ℕ) (at : ℕ) (after : List ℕ) (next : ℕ) : Type 0 where
-  pub list : after ≡ sets before at slots
-  pub end : next ≡ at + length slots

@@ -6,8 +6,9 @@ use types::Refusal;
 ghost use Rattle.types.specs.Answers.{listSays};
 ghost use Rattle.tables.specs.Outcomes.{listingOutcome};
 ghost use Rattle.words.specs.Limits.{LimitsFit};
+ghost use Rattle.words.specs.Filled.{Filled};
 ghost use Rattle.lists.specs.Given.{Lists};
-ghost use Rattle.lists.specs.Listed.{slotsFrom, listingReady, ListFits, ListReady, Filled};
+ghost use Rattle.lists.specs.Listed.{slotsFrom, listingReady, ListFits, ListReady};
 
 // Writes the slots at a link, at most `remaining` nodes deep, from a position of the list on, and gives the next one.
 pub fn list_from(

@@ -4,13 +4,13 @@
 use mathlib.Core.Path.{_≡_, sym, ap, _∙_}
 use Prim.Native.Nat.{ℕ}
 use Rattle.types.specs.declared.Refusal.{Refusal}
-use Rattle.types.specs.Answers.{Answer, refused, refusalNumber}
+use Rattle.types.specs.Answers.{refused, refusalNumber}
 use Rattle.packs.specs.Packed.{parts, packed}
 
 -- What is packed by the case that an answer is, is packed by the answer.
-pub said-packed : {A : Type 0} (says : A → Answer) (given : ℕ) (said case : A) → said ≡ case
-    → given ≡ packed (says case) → given ≡ packed (says said)
-said-packed says given said case is packs = packs ∙ sym (ap (λ s. packed (says s)) is)
+pub said-packed : {A : Type 0} (packing : A → ℕ) (given : ℕ) (said case : A) → said ≡ case
+    → given ≡ packing case → given ≡ packing said
+said-packed packing given said case is packs = packs ∙ sym (ap packing is)
 
 -- A refusal is packed with its number.
 pub refusal-packed : (given : ℕ) (refusal : Refusal) (number : ℕ) → number ≡ refusalNumber refusal

@@ -2,11 +2,13 @@
 use types::DoneAnswer;
 use types::ListAnswer;
 use types::Refusal;
+use types::SaveAnswer;
 use types::SearchAnswer;
 use types::UpdateAnswer;
 ghost use mathlib.Core.Path.{_≡_};
 ghost use Rattle.types.specs.Answers.{refused, refusalNumber, searchSays, updateSays, doneSays, listSays};
-ghost use Rattle.packs.specs.Packed.{parts, packed, packedPart};
+ghost use Rattle.types.specs.SaveReplies.{saveSays};
+ghost use Rattle.packs.specs.Packed.{parts, packed, packedSave, packedPart};
 
 // The five numbers of an answer in one, each cut to its bits.
 pub fn packed(kind: usize, places: usize, visits: usize, one: usize, other: usize) -> usize
@@ -77,6 +79,16 @@ pub fn packed_list(said: ListAnswer) -> usize
     match said {
         ListAnswer::Listed(count) => packed(5, 0, 0, count, 0),
         ListAnswer::Refused(refusal) => packed_refusal(refusal),
+    }
+}
+
+// A save's answer in one number.
+pub fn packed_save(said: SaveAnswer) -> usize
+    ensures { λ r. ⌜ r ≡ packedSave (saveSays said) ⌝ }
+{
+    match said {
+        SaveAnswer::Saved(bytes) => packed(7, 0, 0, bytes, 0),
+        SaveAnswer::Refused(refusal) => packed_refusal(refusal),
     }
 }
 

@@ -3,7 +3,7 @@ use Prim.Native.Nat.{ℕ}
 use Rattle.types.specs.declared.Refusal.{Refusal}
 use Rattle.types.specs.declared.Refusal.the-variants.{WrongTable, WrongStore, EmptyLabel, LongLabel, WrongCharge}
 use Rattle.types.specs.declared.Refusal.the-variants.{WrongSlot, BrokenWalk, NotSound, AlreadyHeld, NotHeld, Full}
-use Rattle.types.specs.declared.Refusal.the-variants.{ShortList}
+use Rattle.types.specs.declared.Refusal.the-variants.{ShortList, ShortOutput}
 use Rattle.types.specs.declared.SearchAnswer as search
 use Rattle.types.specs.declared.UpdateAnswer as update
 use Rattle.types.specs.declared.DoneAnswer as plain
@@ -21,7 +21,8 @@ pub data Answer : Type 0 where
   done : Answer
   refused : (number : ℕ) → Answer
 
--- the column 'No.' of the table of refusals, and M-109's "24, a charge neither 0 to 100 nor 255"
+-- the column 'No.' of the table of refusals; M-105's "17, output shorter than the file"; M-109's "24, a charge neither
+-- 0 to 100 nor 255"
 abbrev pub refusalNumber : Refusal → ℕ
 refusalNumber WrongTable = 1
 refusalNumber WrongStore = 2
@@ -34,6 +35,7 @@ refusalNumber NotHeld = 8
 refusalNumber Full = 9
 refusalNumber ShortList = 10
 refusalNumber WrongSlot = 11
+refusalNumber ShortOutput = 17
 refusalNumber WrongCharge = 24
 
 abbrev pub searchSays : search.SearchAnswer → Answer

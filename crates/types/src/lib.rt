@@ -36,6 +36,7 @@ pub enum Refusal {
     NotHeld,
     Full,
     ShortList,
+    ShortOutput,
 }
 
 // The number of a refusal.
@@ -54,6 +55,7 @@ pub fn number_of(refusal: Refusal) -> usize
         Refusal::Full => 9,
         Refusal::ShortList => 10,
         Refusal::WrongSlot => 11,
+        Refusal::ShortOutput => 17,
         Refusal::WrongCharge => 24,
     }
 }
@@ -94,6 +96,12 @@ pub enum DoneAnswer {
 // What a listing says: how many slots it wrote.
 pub enum ListAnswer {
     Listed(usize),
+    Refused(Refusal),
+}
+
+// What a save says: how many bytes it wrote.
+pub enum SaveAnswer {
+    Saved(usize),
     Refused(Refusal),
 }
 

@@ -2,7 +2,8 @@
 -- The measure is the remaining height.
 use native.Mathlib.Omega.{arith}
 use borrow.Author.Needs.{needs}
-use Rattle.lists.proofs.ListLaws.{slots-at-depth, slots-at-none, slots-above, filled-by-none, filled-by-node}
+use Rattle.words.proofs.Fills.{filled-by-none}
+use Rattle.lists.proofs.ListLaws.{slots-at-depth, slots-at-none, slots-above, filled-by-node}
 use Rattle.lists.proofs.ListLaws.{fits-near, fits-far, next-fits}
 use Prim.Native.Nat.{ℕ, _<_}
 use borrow.Fn.Kinds.{In}

@@ -1,5 +1,6 @@
 -- `packs::packed_search` meets its contract: it packs the answer case by case.
 use Rattle.types.specs.Answers.{searchSays}
+use Rattle.packs.specs.Packed.{packed}
 use Rattle.packs.proofs.PackedLaws.{said-packed}
 use borrow.Author.Needs.{needs}
 use Rattle.packs.proofs.packed_search.Statement.{statement}
@@ -27,13 +28,13 @@ packed-refusal-requires : tie.Need-packed-refusal-requires
 packed-refusal-requires c κs = search needs
 
 returns : tie.Need-returns
-returns c = search (said-packed searchSays)
+returns c = search (said-packed (λ said. packed (searchSays said)))
 
 returns-2 : tie.Need-returns-2
-returns-2 c = search (said-packed searchSays)
+returns-2 c = search (said-packed (λ said. packed (searchSays said)))
 
 returns-3 : tie.Need-returns-3
-returns-3 c = search (said-packed searchSays)
+returns-3 c = search (said-packed (λ said. packed (searchSays said)))
 
 pub packed-search-spec : {M : Type 1} → statement M
 packed-search-spec =
