@@ -9,7 +9,7 @@ shared-slice-read-count : tie.Need-shared-slice-read-count
 shared-slice-read-count c = search needs
 
 cast-count : tie.Need-cast-count
-cast-count c = omega (arith, c .shared-slice-known3 .given 1)
+cast-count c = omega (arith, c .shared-slice-known3 .given 1, c .shared-slice-known3 .given 0)
 
 count-requires : tie.Need-count-requires
 count-requires c κs = search needs
