@@ -33,7 +33,8 @@ use Rattle.demands.proofs.Spellings.{spelling-stays}
 use Rattle.demands.proofs.Ties.{tie-saves}
 use Rattle.demands.proofs.NextTo.{true-neighbours}
 use Rattle.demands.proofs.ChargeRule.{charge-rule}
-use Rattle.demands.proofs.Saves.{saves-map, saves-within}
+use Rattle.demands.proofs.Saves.{saves-map}
+use Rattle.demands.proofs.FileSizes.{saves-within}
 use Rattle.demands.proofs.PlaceLimits.{shared-limit, length-limit}
 use Rattle.demands.proofs.Sharp.{no-smaller-limit}
 

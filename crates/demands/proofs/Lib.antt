@@ -25,6 +25,7 @@ pub mod PlaceLimits
 pub mod Sharp
 pub mod ChargeRule
 pub mod Saves
+pub mod FileSizes
 pub mod Hub
 pub mod Page
 pub mod SoundAfter

@@ -23,8 +23,8 @@ savingOf limits m output = saveOutcome limits (m .table) (m .store) output
 abbrev pub valuesIn : Limits → Memory → List ℕ
 valuesIn limits m = map (λ p. p .value) (mapIn limits m)
 
--- a save with room writes the file of the map, in ascending order; "later bytes of the lent output stay"; "The answer is
--- how many were written"
+-- a save with room writes the file of the map, in ascending order; "later bytes of the lent output stay"; "The answer
+-- is how many were written"
 pub record SavesFile (limits : Limits) (m : Memory) (output : List ℕ) : Type 0 where
   pub count : savingOf limits m output .answer ≡ saved (length (fileIn limits m))
   pub bytes : take (length (fileIn limits m)) (savingOf limits m output .output) ≡ fileIn limits m

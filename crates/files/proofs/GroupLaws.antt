@@ -4,13 +4,12 @@
 -- `some-group`: there is one at least. `groups-few`: there are few of them.
 -- `count-of-lower`, `count-of-last`: how many there are.
 use mathlib.Core.List.{List, [], _∷_}
-use mathlib.Core.Bool.{Bool, true, false}
+use mathlib.Core.Bool.{Bool}
 use mathlib.Core.Path.{_≡_, refl, ap, _∙_}
-use Prim.Native.Nat.{ℕ, zero, suc, _+_, _*_, _/_, _%_, _≤_, _<_}
+use Prim.Native.Nat.{ℕ, zero, suc, _+_, _/_, _%_, _≤_, _<_}
 use native.Mathlib.Omega.{arith}
-use lib.Dec.{ltb}
 use lib.ListN.{length}
-use borrow.Author.Tests.{lt-ltb, le-ltb, ltb-false}
+use borrow.Author.Tests.{lt-ltb, le-ltb}
 use Rattle.labels.proofs.Numbers.{Ltb, lt-yes, lt-no, ltb-view}
 use Rattle.files.specs.Groups.{groupsWithin, groupsOf}
 

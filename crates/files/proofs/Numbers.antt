@@ -2,7 +2,7 @@
 -- `numbers-in-groups`: the groups of a number are that number written in groups, with none more than needed; read back,
 -- they give it.
 -- `groups-ascend`: a larger number has no fewer groups.
-use mathlib.Core.List.{List, [], _∷_, _++_}
+use mathlib.Core.List.{List, _∷_, _++_}
 use mathlib.Core.Bool.{Bool}
 use mathlib.Core.Path.{_≡_, sym, ap}
 use Prim.Native.Nat.{ℕ, zero, suc, _+_, _-_, _*_, _/_, _%_, _≤_, _<_}

@@ -3,7 +3,7 @@
 -- `count-near`, `count-own`, `count-far`: a machine word counts each of these.
 -- `sum-fits`, `whole-fits`: and their sums. `counted-node`: which are all.
 use mathlib.Core.List.{List, [], _++_}
-use mathlib.Core.Path.{_≡_, sym, ap, _∙_}
+use mathlib.Core.Path.{_≡_, sym, ap}
 use Prim.Native.Nat.{ℕ, _+_, _-_, _^_, _≤_, _<_}
 use native.Mathlib.Omega.{arith}
 use lib.ListN.{length, length-append}

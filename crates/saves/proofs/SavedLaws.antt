@@ -2,11 +2,10 @@
 -- `entries-at-depth`, `entries-at-none`, `entries-above`: none. `entries-at-node`: those of the left son, the node's own,
 -- and those of the right son.
 use mathlib.Core.List.{List, [], _∷_, _++_, map, map-append}
-use mathlib.Core.Path.{_≡_, refl, ap, _∙_}
+use mathlib.Core.Path.{_≡_, ap, _∙_}
 use Prim.Native.Nat.{ℕ, _-_, _≤_, _<_}
 use Rattle.types.specs.declared.Limits.{Limits}
 use Rattle.types.specs.declared.Row.{Row}
-use Rattle.trees.specs.Map.{Pair}
 use Rattle.tables.specs.Words.{rowAt}
 use Rattle.files.specs.Files.{entriesOf}
 use Rattle.files.proofs.FileLaws.{entries-of-append}

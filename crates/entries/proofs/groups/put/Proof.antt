@@ -1,6 +1,6 @@
 -- `entries::groups::put` meets its contract. The invariant: the groups of what is left of the number, from the next
 -- position on, are what is left to write. The measure is what is left of the number.
-use mathlib.Core.Path.{refl, _∙_}
+use mathlib.Core.Path.{refl}
 use native.Mathlib.Omega.{arith}
 use lib.ListN.{length-set}
 use Rattle.files.specs.Groups.{groupsOf}
