@@ -115,6 +115,30 @@ static void compare_update(const struct update *u)
         fail("an update left another answer");
 }
 
+/* ---- saves */
+
+/* The file of the plain C, into an output of its length and one byte more; and no byte changed where one is missing. */
+static void compare_save(const struct workload *w)
+{
+    static uint8_t output[STRAP_FILE_BYTES + 1], plain[STRAP_FILE_BYTES + 1], before[STRAP_FILE_BYTES + 1];
+    const struct index *index = w->index;
+    size_t words = index->words, bytes = index->bytes;
+    memset(before, 170, sizeof before);
+    memset(plain, 170, sizeof plain);
+    uint64_t said = index->plain_save(w->table, words, w->store, bytes, plain, sizeof plain);
+    size_t written = strap_written_of(said);
+    memcpy(output, before, sizeof output);
+    if (index->save(w->table, words, w->store, bytes, output, written - 1) != refusal(STRAP_SHORT_OUTPUT) ||
+        memcmp(output, before, sizeof output) != 0)
+        fail("an output that is too short is taken, or written");
+    if (index->save(w->table, words, w->store, bytes, output, written) != said ||
+        memcmp(output, plain, sizeof output) != 0)
+        fail("the save of the plain C writes another file");
+    if (index->save(w->table, words, w->store, bytes, output, sizeof output) != said ||
+        memcmp(output, plain, sizeof output) != 0)
+        fail("a save into a longer output writes another file");
+}
+
 void compare_answers(void)
 {
     for (int number = 0; number < WORKLOADS; number++) {
@@ -126,5 +150,7 @@ void compare_answers(void)
         see_sound(w->index, w->table, w->store);
         if (has_updates(w))
             each_update(w, compare_update);
+        if (w->index->save != NULL)
+            compare_save(w);
     }
 }

@@ -127,6 +127,16 @@ static void count_tests(int number, const struct workload *w)
     dump(number, "C test", 1);
 }
 
+static void count_save(int number, const struct workload *w)
+{
+    static uint8_t output[STRAP_FILE_BYTES];
+    const struct index *index = w->index;
+    COUNTED(kept = kept + index->save(w->table, index->words, w->store, index->bytes, output, sizeof output));
+    dump(number, "save", 1);
+    COUNTED(kept = kept + index->plain_save(w->table, index->words, w->store, index->bytes, output, sizeof output));
+    dump(number, "C save", 1);
+}
+
 /* What is counted of the updates: the calls of one kind, or a test of the memory that such a call finds. */
 struct counted {
     const char *name;
@@ -171,6 +181,8 @@ void count_instructions(void)
         count_searches(number, w);
         if (has_updates(w)) {
             count_tests(number, w);
+            if (w->index->save != NULL)
+                count_save(number, w);
             count_updates(number, w);
         }
         CALLGRIND_STOP_INSTRUMENTATION;

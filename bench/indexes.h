@@ -9,6 +9,7 @@ struct index {
     uint64_t (*layout)(uint16_t *table, size_t words, uint8_t *store, size_t bytes);
     search_call *search, *digital_search, *digital_before, *tuned_search;
     check_call *check, *sound_check;
+    save_call *save, *plain_save; /* none where the index has no save */
     whole_call *whole_search, *whole_counts;
     uint64_t (*insert)(uint16_t *table, size_t words, uint8_t *store, size_t bytes, const uint8_t *label, size_t n,
                        uint16_t value);

@@ -16,7 +16,7 @@ groupsWithin (suc most) n =
       | false ↦ (128 + n % 128) ∷ groupsWithin most (n / 128)
     ]
 
--- the groups of a number: each but the last takes something from it, so it has fewer than it counts
+-- the groups of a number, which has no more of them before the last one than it counts
 unfoldable pub groupsOf : ℕ → List ℕ
 groupsOf n = groupsWithin n n
 

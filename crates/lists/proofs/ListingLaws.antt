@@ -3,28 +3,28 @@
 -- `list-ready`: what the listing takes for granted past those tests.
 -- `listing-short`, `listing-done`: what it then gives and leaves.
 use mathlib.Core.List.{List, _++_}
-use mathlib.Core.Bool.{true, not}
-use mathlib.Core.Path.{_≡_, refl, sym, ap, _∙_}
+use mathlib.Core.Bool.{true}
+use mathlib.Core.Path.{_≡_, refl, _∙_}
 use Prim.Native.Nat.{ℕ, _≤_, _<_}
 use native.Mathlib.Nat.{zero-add}
 use native.Mathlib.Omega.{arith}
 use lib.ListN.{length, drop}
-use borrow.Author.Tests.{not-false, lt-ltb, le-ltb}
+use borrow.Author.Tests.{lt-ltb, le-ltb}
 use Rattle.types.specs.declared.Limits.{Limits}
 use Rattle.types.specs.declared.Refusal.{Refusal}
 use Rattle.types.specs.Answers.{Answer, listed, refused, refusalNumber}
 use Rattle.tables.specs.Words.{labelsHeld}
 use Rattle.tables.specs.Sound.{sound}
-use Rattle.tables.specs.Outcomes.{pass, ofTable, ofList, listingOutcome}
+use Rattle.tables.specs.Outcomes.{pass, ofList, listingOutcome}
 use Rattle.lengths.specs.declared.Early.{Early}
 use Rattle.lengths.specs.declared.Early.the-variants.{Pass, Refused}
 use Rattle.lengths.specs.Early.{earlySays}
 use Rattle.words.specs.Limits.{LimitsFit, SizesFit}
 use Rattle.words.specs.Filled.{Filled}
 use Rattle.words.proofs.Fills.{sets-from-start}
-use Rattle.lengths.proofs.FirstLines.{lines-refused, lines-passed, line-passed, sizes-passed}
+use Rattle.lengths.proofs.FirstLines.{lines-refused, lines-passed}
 use Rattle.verdicts.specs.Verdicts.{ofWhole}
-use Rattle.verdicts.proofs.WholeTests.{whole-decides}
+use Rattle.verdicts.proofs.WholeTests.{whole-decides, whole-passed}
 use Rattle.lists.specs.Given.{Lists}
 use Rattle.lists.specs.Listed.{slotsListed, listingReady, ListReady}
 use Rattle.lists.proofs.SoundLists.{slots-of-sound}
@@ -43,15 +43,12 @@ module _ (limits : Limits) (table store : List ℕ) (early : Early)
 
   module _ (fit : LimitsFit limits) (e : early ≡ Pass) where
     -- the table and the store have their sizes, and are sound
-    sizes : SizesFit limits table store × (pass ≡ ofTable limits table store pass)
-    sizes = sizes-passed limits table store (ofTable limits table store pass) fit (sym (ap earlySays e) ∙ says)
-
-    so : sound limits table store ≡ true
-    so = not-false _ (line-passed (not (sound limits table store)) 6 pass (sizes .1) .0)
+    passed : SizesFit limits table store × (sound limits table store ≡ true)
+    passed = whole-passed limits table store early says fit e
 
     pub list-ready : ListReady limits table
     list-ready =
-        record { fit = fit; words = sizes .0 .words; count = slots-of-sound limits table store so .count }
+        record { fit = fit; words = passed .0 .words; count = slots-of-sound limits table store (passed .1) .count }
 
     pub listing-passed : (list after : List ℕ) (a : Answer) → Lists (listingReady limits table list) a after
         → Lists (listingOutcome limits table store list) a after
@@ -60,7 +57,7 @@ module _ (limits : Limits) (table store : List ℕ) (early : Early)
         let decides = whole-decides limits table store in
         rw (
           lines-passed (ofWhole limits table store) decides early says e (ofList table list pass),
-          ← (slots-of-sound limits table store so .slots),
+          ← (slots-of-sound limits table store (passed .1) .slots),
         )
         lists
 

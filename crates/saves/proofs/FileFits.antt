@@ -16,8 +16,8 @@ use Rattle.files.specs.Groups.{groupsWithin, groupsOf}
 use Rattle.files.specs.Files.{largestWord}
 use Rattle.files.proofs.GroupLaws.{groups-few}
 use Rattle.files.proofs.FileLaws.{FitIn, fit-none, fit-pair, longestEntry, entries-within}
-use Rattle.lists.specs.Listed.{slotsListed}
-use Rattle.saves.specs.Saved.{pairInSlot, entriesFrom, fileFrom, SaveReady, CountFits, WriteFits}
+use Rattle.lists.specs.Listed.{slotsListed, ListReady}
+use Rattle.saves.specs.Saved.{pairInSlot, entriesFrom, fileFrom, CountFits, WriteFits}
 
 -- The longest entry of a length word and a value.
 longest-of-words : longestEntry largestWord ≡ 65541
@@ -35,7 +35,7 @@ module _ (limits : Limits) (table store : List ℕ) (words : (i : ℕ) → getD 
       fit-pair {p = pairInSlot limits table store k} (omega (arith, cut, words (slotStart k + 5)))
       (words (slotStart k + 6)) (pairs-fit slots)
 
-  module _ (ready : SaveReady limits table) where
+  module _ (ready : ListReady limits table) where
     -- the entries of the whole table
     abbrev all : List ℕ
     all = entriesFrom limits table store (limits .depth) (rootLink table)
@@ -81,7 +81,7 @@ module _ (limits : Limits) (table store : List ℕ) where
     room-of-count = omega (arith, parts-counted)
 
     module _ (first : List ℕ) (start : ℕ) (begun : Filled (groupsOf (labelsHeld table)) output 0 first start) where
-      pub room-of-entries : SaveReady limits table
+      pub room-of-entries : ListReady limits table
           → WriteFits limits table store first start (limits .depth) (rootLink table)
       room-of-entries ready =
           record {

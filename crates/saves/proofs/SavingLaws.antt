@@ -1,32 +1,29 @@
 -- The outcome of a save, by the tests that come first.
--- `saving-refused`, `saving-passed`: its answer and output. `save-ready`: what it takes for granted past those tests.
+-- `saving-refused`, `saving-passed`: its answer and output.
 -- `saving-short`, `saving-done`: what it then gives and leaves.
 use mathlib.Core.List.{List}
-use mathlib.Core.Bool.{true, not}
-use mathlib.Core.Path.{_≡_, refl, sym, ap, _∙_}
+use mathlib.Core.Path.{_≡_, refl, _∙_}
 use Prim.Native.Nat.{ℕ, _≤_, _<_}
 use native.Mathlib.Nat.{zero-add}
 use native.Mathlib.Omega.{arith}
 use lib.ListN.{length}
-use borrow.Author.Tests.{not-false, lt-ltb, le-ltb}
+use borrow.Author.Tests.{lt-ltb, le-ltb}
 use Rattle.types.specs.declared.Limits.{Limits}
 use Rattle.types.specs.declared.Refusal.{Refusal}
 use Rattle.types.specs.Answers.{refusalNumber}
 use Rattle.types.specs.SaveReplies.{SaveReply, saved, refused}
-use Rattle.tables.specs.Sound.{sound}
-use Rattle.tables.specs.Outcomes.{pass, ofTable}
+use Rattle.tables.specs.Outcomes.{pass}
 use Rattle.lengths.specs.declared.Early.{Early}
 use Rattle.lengths.specs.declared.Early.the-variants.{Pass, Refused}
 use Rattle.lengths.specs.Early.{earlySays}
-use Rattle.words.specs.Limits.{LimitsFit, SizesFit}
+use Rattle.words.specs.Limits.{LimitsFit}
 use Rattle.words.specs.Filled.{Filled}
 use Rattle.words.proofs.Fills.{sets-from-start}
-use Rattle.lengths.proofs.FirstLines.{lines-refused, lines-passed, line-passed, sizes-passed}
+use Rattle.lengths.proofs.FirstLines.{lines-refused, lines-passed}
 use Rattle.verdicts.specs.Verdicts.{ofWhole}
-use Rattle.verdicts.proofs.WholeTests.{whole-decides}
-use Rattle.lists.proofs.SoundLists.{slots-of-sound}
+use Rattle.verdicts.proofs.WholeTests.{whole-decides, whole-passed}
 use Rattle.files.specs.Saves.{ofOutput, fileIn, saveOutcome, Saves}
-use Rattle.saves.specs.Saved.{fileFrom, savingReady, SaveReady}
+use Rattle.saves.specs.Saved.{fileFrom, savingReady}
 use Rattle.saves.proofs.SoundSaves.{file-of-sound}
 
 -- what the tests of a whole table decide of a save
@@ -43,17 +40,6 @@ module _ (limits : Limits) (table store : List ℕ) (early : Early)
         (record { answer = refl; output = refl })
 
   module _ (fit : LimitsFit limits) (e : early ≡ Pass) where
-    -- the table and the store have their sizes, and are sound
-    sizes : SizesFit limits table store × (pass ≡ ofTable limits table store pass)
-    sizes = sizes-passed limits table store (ofTable limits table store pass) fit (sym (ap earlySays e) ∙ says)
-
-    so : sound limits table store ≡ true
-    so = not-false _ (line-passed (not (sound limits table store)) 6 pass (sizes .1) .0)
-
-    pub save-ready : SaveReady limits table
-    save-ready =
-        record { fit = fit; words = sizes .0 .words; count = slots-of-sound limits table store so .count }
-
     pub saving-passed : (output after : List ℕ) (a : SaveReply) → Saves (savingReady limits table store output) a after
         → Saves (saveOutcome limits table store output) a after
     unfolding saveOutcome
@@ -62,7 +48,7 @@ module _ (limits : Limits) (table store : List ℕ) (early : Early)
         let decides = whole-decides limits table store in
         rw (
           lines-passed (ofWhole limits table store) decides early says e (ofOutput file output pass),
-          ← (file-of-sound limits table store so),
+          ← (file-of-sound limits table store (whole-passed limits table store early says fit e .1)),
         )
         saves
 

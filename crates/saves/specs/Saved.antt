@@ -14,7 +14,7 @@ use Rattle.words.specs.Filled.{HasRoom}
 use Rattle.files.specs.Groups.{groupsOf}
 use Rattle.files.specs.Files.{entryOf, entriesOf}
 use Rattle.files.specs.Saves.{Saving, ofOutput, savingBy}
-use Rattle.lists.specs.Listed.{slotsFrom, slotsListed}
+use Rattle.lists.specs.Listed.{slotsFrom}
 
 -- the label, the value and the charge in a slot
 abbrev pub pairInSlot : Limits → (table store : List ℕ) → ℕ → Pair
@@ -38,12 +38,6 @@ fileFrom limits table store =
 abbrev pub savingReady : Limits → (table store output : List ℕ) → Saving
 savingReady limits table store output =
     savingBy (ofOutput (fileFrom limits table store) output pass) output (fileFrom limits table store)
-
--- past those tests: sizes that fit, and as many slots as labels held
-pub record SaveReady (limits : Limits) (table : List ℕ) : Type 0 where
-  pub fit : LimitsFit limits
-  pub words : length table ≡ tableLength limits
-  pub count : length (slotsListed limits table) ≡ labelsHeld table
 
 -- sizes that fit, and entries whose bytes a machine word counts
 pub record CountFits (limits : Limits) (table store : List ℕ) (remaining link : ℕ) : Type 0 where

@@ -11,9 +11,10 @@ ghost use lib.ListN.{length};
 ghost use Rattle.types.specs.SaveReplies.{saveSays};
 ghost use Rattle.words.specs.Limits.{LimitsFit};
 ghost use Rattle.words.specs.Filled.{Filled, HasRoom};
+ghost use Rattle.lists.specs.Listed.{ListReady};
 ghost use Rattle.files.specs.Saves.{saveOutcome, Saves};
 ghost use Rattle.saves.specs.Saved.{entryInSlot, entriesFrom, fileFrom, savingReady};
-ghost use Rattle.saves.specs.Saved.{SaveReady, CountFits, WriteFits};
+ghost use Rattle.saves.specs.Saved.{CountFits, WriteFits};
 
 // How many bytes the entry of a slot takes, by its row.
 fn slot_length(limits: Limits, store: &[u8], slot: u16, row: Row) -> usize
@@ -119,7 +120,7 @@ pub fn write_from(
 
 // How many bytes the file of a table takes, by its links.
 fn file_length(limits: Limits, table: &[u16], store: &[u8]) -> usize
-    requires { ⌜ SaveReady limits (now table) ⌝ }
+    requires { ⌜ ListReady limits (now table) ⌝ }
     ensures { λ r. ⌜ r ≡ length (fileFrom limits (now (table .entry)) (now (store .entry))) ⌝ }
 {
     let held = entries::groups::count(table[1] as usize);
@@ -128,7 +129,7 @@ fn file_length(limits: Limits, table: &[u16], store: &[u8]) -> usize
 
 // Saves a table that has as many nodes as labels held; refused by 17 where the output is shorter than the file.
 fn save_ready(limits: Limits, table: &[u16], store: &[u8], output: &mut [u8]) -> SaveAnswer
-    requires { ⌜ SaveReady limits (now table) ⌝ }
+    requires { ⌜ ListReady limits (now table) ⌝ }
     ensures { λ r. ⌜
         Saves (savingReady limits (now (table .entry)) (now (store .entry)) (now (output .entry)))
         (saveSays r) (now (output .exit)) ⌝ }

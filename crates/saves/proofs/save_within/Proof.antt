@@ -1,6 +1,7 @@
 -- `saves::save_within` meets its contract: refused by the tests of a whole table, or ready.
 use borrow.Author.Needs.{needs}
-use Rattle.saves.proofs.SavingLaws.{saving-refused, save-ready, saving-passed}
+use Rattle.lists.proofs.ListingLaws.{list-ready}
+use Rattle.saves.proofs.SavingLaws.{saving-refused, saving-passed}
 use Rattle.saves.proofs.save_within.Statement.{statement}
 use Rattle.saves.proofs.save_within.Tie as tie
 
@@ -14,7 +15,7 @@ enum-told : tie.Need-enum-told
 enum-told c = search needs
 
 save-ready-requires : tie.Need-save-ready-requires
-save-ready-requires c κs = search save-ready
+save-ready-requires c κs = search list-ready
 
 returns : tie.Need-returns
 returns c = search saving-refused
