@@ -6,9 +6,10 @@
  *
  * Labels are compared with A to Z as a to z, and kept as they were first spelled.
  *
- * A lent part (table, store, label, list, output) passes as its pointer and its length in elements. Any length and any content
- * is taken: a call answers, or refuses by a number below; a refused call has changed nothing. The contracts stand in
- * crates/exports/src/lib.rt and crates/page_exports/src/lib.rt, and crates/packs/specs/Packed.antt defines the packing.
+ * A lent part (table, store, label, list, output) passes as its pointer and its length in elements. Any length and any
+ * content is taken: a call answers, or refuses by a number below; a refused call has changed nothing. The contracts
+ * stand in crates/exports/src/lib.rt and crates/page_exports/src/lib.rt, and crates/packs/specs/Packed.antt defines the
+ * packing.
  *
  * What is asked of a caller, since no proof reaches past the library:
  *   - each pointer is not null, is aligned for its type, and reaches as many elements as its length says, all of them

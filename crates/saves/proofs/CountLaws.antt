@@ -21,7 +21,8 @@ abbrev pub InParts : Limits → (table store : List ℕ) → (remaining link : �
 InParts limits table store remaining link row =
     length (entriesFrom limits table store remaining link)
     ≡ length (entriesFrom limits table store (remaining - 1) (row .left))
-    + (length (entryInSlot limits store link row) + length (entriesFrom limits table store (remaining - 1) (row .right)))
+    + (length (entryInSlot limits store link row)
+    + length (entriesFrom limits table store (remaining - 1) (row .right)))
 
 pub parts-counted : (limits : Limits) (table store : List ℕ) (remaining link : ℕ) (row : Row)
     → (remaining ≡ 0 → ⊥) → (link ≡ 0 → ⊥) → link ≤ limits .slots → row ≡ rowAt table link
@@ -58,8 +59,8 @@ module _ (limits : Limits) (table store : List ℕ) (remaining link : ℕ) (row 
   count-far =
       let few = fits .few in record { fit = fits .fit; words = fits .words; few = omega (arith, counts) }
 
-  module _ (before own after : ℕ) (is-near : before ≡ length near) (is-own : own ≡ length (entryInSlot limits store link row))
-      (is-far : after ≡ length far) where
+  module _ (before own after : ℕ) (is-near : before ≡ length near)
+      (is-own : own ≡ length (entryInSlot limits store link row)) (is-far : after ≡ length far) where
     pub counted-node : before + (own + after) ≡ length (entriesFrom limits table store remaining link)
     counted-node = omega (arith, counts)
 

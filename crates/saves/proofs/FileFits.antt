@@ -19,6 +19,10 @@ use Rattle.files.proofs.FileLaws.{FitIn, fit-none, fit-pair, longestEntry, entr
 use Rattle.lists.specs.Listed.{slotsListed, ListReady}
 use Rattle.saves.specs.Saved.{pairInSlot, entriesFrom, fileFrom, CountFits, WriteFits}
 
+-- the entries of a whole table
+abbrev entriesOver : Limits → (table store : List ℕ) → List ℕ
+entriesOver limits table store = entriesFrom limits table store (limits .depth) (rootLink table)
+
 -- The longest entry of a length word and a value.
 longest-of-words : longestEntry largestWord ≡ 65541
 unfolding groupsOf groupsWithin
@@ -36,37 +40,30 @@ module _ (limits : Limits) (table store : List ℕ) (words : (i : ℕ) → getD 
       (words (slotStart k + 6)) (pairs-fit slots)
 
   module _ (ready : ListReady limits table) where
-    -- the entries of the whole table
-    abbrev all : List ℕ
-    all = entriesFrom limits table store (limits .depth) (rootLink table)
-
-    few-entries : length all ≤ 65535 * 65541
+    few-entries : length (entriesOver limits table store) ≤ largestWord * longestEntry largestWord
     unfolding entriesFrom
     few-entries =
-        let pairs = map (pairInSlot limits table store) (slotsListed limits table) in
         let count = length-map (slotsListed limits table) (pairInSlot limits table store) ∙ ready .count in
-        let most = entries-within (pairs-fit (slotsListed limits table)) in
-        let held = words 1 in
         omega (
           arith,
-          most,
-          longest-of-words,
-          mul-le-mul-right (longestEntry largestWord) held,
+          entries-within (pairs-fit (slotsListed limits table)),
           ap (λ n. n * longestEntry largestWord) count,
+          mul-le-mul-right (longestEntry largestWord) (words 1),
         )
 
     pub count-whole : CountFits limits table store (limits .depth) (rootLink table)
-    count-whole = record { fit = ready .fit; words = ready .words; few = omega (arith, few-entries) }
+    count-whole = record { fit = ready .fit; words = ready .words; few = omega (arith, few-entries, longest-of-words) }
 
-    pub length-fits : (n held entries : ℕ) → n ≤ largestWord → held ≡ length (groupsOf n) → entries ≡ length all
-        → held + entries < 2 ^ 64
-    length-fits n held entries small is-held is-all = omega (arith, few-entries, groups-few n)
+    pub length-fits : (n held count : ℕ) → n ≤ largestWord → held ≡ length (groupsOf n)
+        → count ≡ length (entriesOver limits table store) → held + count < 2 ^ 64
+    length-fits n held count small is-held is-count = omega (arith, few-entries, longest-of-words, groups-few n)
 
 module _ (limits : Limits) (table store : List ℕ) where
   -- the file's entries
   abbrev entries : List ℕ
-  entries = entriesFrom limits table store (limits .depth) (rootLink table)
+  entries = entriesOver limits table store
 
+  -- The file takes the groups of the labels held, and its entries.
   parts-counted : length (fileFrom limits table store) ≡ length (groupsOf (labelsHeld table)) + length entries
   unfolding fileFrom
   parts-counted = length-append (groupsOf (labelsHeld table)) entries

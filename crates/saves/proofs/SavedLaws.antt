@@ -1,6 +1,6 @@
 -- The entries at a link, by the tests of the walk.
--- `entries-at-depth`, `entries-at-none`, `entries-above`: none. `entries-at-node`: those of the left son, the node's own,
--- and those of the right son.
+-- `entries-at-depth`, `entries-at-none`, `entries-above`: none. `entries-at-node`: those of the left son, the node's
+-- own, and those of the right son.
 use mathlib.Core.List.{List, [], _∷_, _++_, map, map-append}
 use mathlib.Core.Path.{_≡_, ap, _∙_}
 use Prim.Native.Nat.{ℕ, _-_, _≤_, _<_}

@@ -22,7 +22,8 @@ cast-count-from c = omega (arith, c .shared-slice-known4 .given 0)
 
 count-from-requires : tie.Need-count-from-requires
 count-from-requires c κs =
-    count-whole _ _ _ (λ i. omega (arith, c .shared-slice-known4 .given i)) (c .before .before .before .before .before .pre)
+    let start = c .before .before .before .before .before in
+    count-whole _ _ _ (λ i. omega (arith, c .shared-slice-known4 .given i)) (start .pre)
 
 add-result : tie.Need-add-result
 add-result c =
