@@ -276,6 +276,77 @@ static void charges_set(void)
     refuses("2 before 24", strap_set_charge(table, WORDS, store, BYTES - 1, (const uint8_t *)"b", 1, 101),
             STRAP_WRONG_STORE);
 }
+
+enum { HELD_BEFORE = 170 };
+static uint8_t output[STRAP_FILE_BYTES + 1];
+
+static uint64_t save_from(size_t words, size_t bytes, size_t room)
+{
+    memset(output, HELD_BEFORE, sizeof output);
+    return strap_save(table, words, store, bytes, output, room);
+}
+
+/* The output has these bytes at its front, and behind them what it held before the call. */
+static void wrote(const char *what, const uint8_t *file, size_t n)
+{
+    int same = memcmp(output, file, n) == 0;
+    for (size_t i = n; i < sizeof output; i++)
+        same &= output[i] == HELD_BEFORE;
+    if (!same) {
+        fprintf(stderr, INDEX ": %s: other bytes\n", what);
+        failed = 1;
+    }
+}
+
+/* A save with so much room writes this file. */
+static void saves(const char *what, size_t room, const uint8_t *file, size_t n)
+{
+    uint64_t said = save_from(WORDS, BYTES, room);
+    says(what, said, STRAP_SAVED, (unsigned)n, 0);
+    counts(what, said, 0, 0);
+    if (strap_written_of(said) == n)
+        wrote(what, file, n);
+}
+
+/* A save is refused, and writes nothing. */
+static void saves_nothing(const char *what, size_t words, size_t bytes, size_t room, enum strap_refusal number)
+{
+    refuses(what, save_from(words, bytes, room), number);
+    wrote(what, output, 0);
+}
+
+/* Files written out by hand, of no labels and of four: values of one group, two and three, and 0; the spelling first
+ * stored; no charge. Each refusal before those after it. */
+static void saved_files(void)
+{
+    static const uint8_t none[] = {0};
+    static const uint8_t file[] = {4, 1, 'a', 128, 1, 1, 'b', 10, 1, 'C', 0, 2, 'd', 'd', 255, 255, 3};
+    const size_t n = sizeof file;
+    layout();
+    saves("save of nothing", 1, none, 1);
+    saves("save of nothing into more", sizeof output, none, 1);
+    saves_nothing("17, no output", WORDS, BYTES, 0, STRAP_SHORT_OUTPUT);
+    insert("b", 10);
+    insert("a", 128);
+    insert("dd", 65535);
+    insert("C", 0);
+    saves("save", n, file, n);
+    saves("save into one byte more", n + 1, file, n);
+    saves("save into more", sizeof output, file, n);
+    set_charge("c", 57);
+    saves("save with a charge", n, file, n);
+    saves_nothing("17", WORDS, BYTES, n - 1, STRAP_SHORT_OUTPUT);
+    saves_nothing("17, no output at all", WORDS, BYTES, 0, STRAP_SHORT_OUTPUT);
+    saves_nothing("1, a word less", WORDS - 1, BYTES, n, STRAP_WRONG_TABLE);
+    saves_nothing("2, a byte less", WORDS, BYTES - 1, n, STRAP_WRONG_STORE);
+    table[1] = 3;
+    saves_nothing("6, save", WORDS, BYTES, n, STRAP_NOT_SOUND);
+    saves_nothing("6 before 17", WORDS, BYTES, n - 1, STRAP_NOT_SOUND);
+    saves_nothing("2 before 6", WORDS, BYTES - 1, 0, STRAP_WRONG_STORE);
+    saves_nothing("1 before 2", WORDS - 1, BYTES - 1, 0, STRAP_WRONG_TABLE);
+    table[1] = 4;
+    saves("save after all", n, file, n);
+}
 #endif
 
 /* Three digits in ascending order: the label of slot i + 1 in a full table. */
@@ -307,6 +378,34 @@ static void full(void)
     }
 }
 
+#ifndef PAGE
+/* The longest file: 512 labels of 64 bytes, each with value 65,535. */
+static void saved_full(void)
+{
+    static uint8_t file[STRAP_FILE_BYTES];
+    char label[WIDTH + 1];
+    size_t n = 0;
+    memset(label, 'x', WIDTH);
+    label[WIDTH] = 0;
+    layout();
+    file[n++] = 128;
+    file[n++] = 4;
+    for (unsigned i = 0; i < SLOTS; i++) {
+        spell(label + WIDTH - 3, i);
+        says("filling with the longest", insert(label, 65535), STRAP_UPDATED, i + 1, 0);
+        file[n++] = WIDTH;
+        memcpy(file + n, label, WIDTH);
+        n += WIDTH;
+        file[n++] = 255;
+        file[n++] = 255;
+        file[n++] = 3;
+    }
+    saves("save of the longest", n, file, n);
+    saves("save of the longest into more", n + 1, file, n);
+    saves_nothing("17, of the longest", WORDS, BYTES, n - 1, STRAP_SHORT_OUTPUT);
+}
+#endif
+
 int each_call(void)
 {
     answers();
@@ -316,7 +415,11 @@ int each_call(void)
     charges_kept();
 #ifndef PAGE
     charges_set();
+    saved_files();
 #endif
     full();
+#ifndef PAGE
+    saved_full();
+#endif
     return failed;
 }

@@ -4,4 +4,5 @@ pub mod answers;
 mod charges;
 pub mod judged;
 mod maps;
+pub mod saves;
 pub mod states;

@@ -1,7 +1,8 @@
 // An answer in one number, and its parts: from the lowest bits 4 of kind, 12 of places, 16 of visits, then 16 and 16.
 
 // The kinds: a refusal's number; slot and value, with both counts; the slots of the nearest smaller and the nearest
-// larger label, with both counts; the slot, with both counts; nothing; how many slots; how many bytes.
+// larger label, with both counts; the slot, with both counts; nothing; how many slots; how many bytes; how many
+// bytes written.
 pub const REFUSED: usize = 0;
 
 pub const FOUND: usize = 1;
@@ -15,6 +16,8 @@ pub const DONE: usize = 4;
 pub const LISTED: usize = 5;
 
 pub const VIEWED: usize = 6;
+
+pub const SAVED: usize = 7;
 
 // An answer with both counts of a search.
 pub fn counted(kind: usize, visits: usize, places: usize, one: usize, other: usize) -> usize {
@@ -61,6 +64,14 @@ pub fn other(answer: usize) -> usize {
 // The number of a refusal, 0 for any other answer.
 pub fn refusal(answer: usize) -> usize {
     if kind(answer) == REFUSED {
+        return one(answer);
+    }
+    0
+}
+
+// The bytes that a save wrote, 0 for any other answer.
+pub fn written(answer: usize) -> usize {
+    if kind(answer) == SAVED {
         return one(answer);
     }
     0

@@ -1,6 +1,7 @@
 // A plain ordered map from labels to values and charges, to hold the index against: a sorted list of slots, looked
 // through from its start. It shares nothing with the index, no tree, no comparison and no layout. Each function takes
 // any arguments: what lies outside reads as 0 and is never written.
+pub mod files;
 pub mod labels;
 pub mod lists;
 

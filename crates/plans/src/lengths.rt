@@ -1,6 +1,7 @@
-// The lengths at which the tests lend memory, labels and lists, besides the index's own.
+// The lengths at which the tests lend memory, labels, lists and outputs, besides the index's own.
 use images::memory;
 use images::memory::Image;
+use images::outputs;
 use images::sizes;
 use images::sizes::Sizes;
 use std::num::wrapping_add_usize;
@@ -24,6 +25,11 @@ pub const LABELS: usize = 3;
 
 // The lists' lengths.
 pub const ROOMS: usize = 4;
+
+// The outputs' lengths, and how many of them are taken in turn.
+pub const OUTPUTS: usize = 5;
+
+pub const TURNS: usize = 4;
 
 // Lends memory at a pair of lengths.
 pub fn lend(image: &mut Image, pair: usize) {
@@ -100,5 +106,16 @@ pub fn room(i: usize, held: usize) -> usize {
         1 => wrapping_sub_usize(held, 1),
         2 => held,
         _ => wrapping_add_usize(held, 1),
+    }
+}
+
+// The bytes of an output, where the file has so many: as many, one less, one more, as many as there are, none.
+pub fn output(i: usize, file: usize) -> usize {
+    match i {
+        0 => file,
+        1 => wrapping_sub_usize(file, 1),
+        2 => wrapping_add_usize(file, 1),
+        3 => outputs::ALL,
+        _ => 0,
     }
 }

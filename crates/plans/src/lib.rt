@@ -3,6 +3,7 @@ pub mod changes;
 mod charges;
 mod charging;
 pub mod edges;
+pub mod files;
 pub mod groups;
 pub mod lengths;
 pub mod planned;

@@ -1,16 +1,18 @@
 // What a group counts, and the lines that are printed.
 use crate::Round;
+use crate::faults;
 use crate::texts;
 use crate::texts::Line;
 use samples::calls::INSERT;
 use samples::calls::SET_CHARGE;
 use std::num::wrapping_add_usize;
 
-pub type Tally = [usize; 12];
+pub type Tally = [usize; 14];
 
 // The counts of a tally: the calls; of these the searches that found the label or did not, the updates, and those
 // refused; the most labels held; the calls that did not agree; the changes of the memory, and those of them that left
-// the table sound; the calls whose search reached the bound by shared bytes; the charges set.
+// the table sound; the calls whose search reached the bound by shared bytes; the charges set; the files written, and
+// the bytes of the longest.
 pub const CALLS: usize = 0;
 
 pub const FOUND: usize = 1;
@@ -35,12 +37,16 @@ pub const REACHED: usize = 10;
 
 pub const CHARGED: usize = 11;
 
+pub const SAVED: usize = 12;
+
+pub const LONGEST: usize = 13;
+
 pub fn none() -> Tally {
-    [0usize; 12]
+    [0usize; 14]
 }
 
 pub fn get(tally: Tally, k: usize) -> usize {
-    if k < 12 {
+    if k < 14 {
         return tally[k];
     }
     0
@@ -48,7 +54,7 @@ pub fn get(tally: Tally, k: usize) -> usize {
 
 fn set(tally: Tally, k: usize, x: usize) -> Tally {
     let mut t = tally;
-    if k < 12 {
+    if k < 14 {
         t[k] = x;
     }
     t
@@ -79,7 +85,8 @@ pub fn count(tally: Tally, call: usize, round: Round, held: usize) -> Tally {
     let ended = one_more(called, end_of(call, round.kind));
     let most = at_least(ended, MOST, held);
     let reached = one_more_if(most, REACHED, round.reached);
-    one_more_if(reached, MISMATCHES, round.fault > 0)
+    let longest = at_least(reached, LONGEST, round.written);
+    one_more_if(longest, MISMATCHES, round.fault > 0)
 }
 
 // Which count a call's end goes to, by the kind of its answer.
@@ -88,6 +95,7 @@ fn end_of(call: usize, kind: usize) -> usize {
         0 => REFUSED,
         1 => FOUND,
         2 => ABSENT,
+        7 => SAVED,
         _ => updates_end(call),
     }
 }
@@ -102,12 +110,33 @@ fn updates_end(call: usize) -> usize {
 
 // Prints the line of a group of calls on sound tables of the hub or the page: its shape, its way, and its counts.
 pub fn print_sequence(page: bool, shape: usize, way: usize, tally: Tally) {
+    print_way(
+        page,
+        shape,
+        way,
+        b": calls 0, found 1, absent 2, inserted 3, deleted 4, charged B, refused 5, most held 6, at the bound A",
+        tally,
+    );
+}
+
+// Prints the line of the saves in such a group of the hub, which alone has them.
+pub fn print_saves(shape: usize, way: usize, tally: Tally) {
+    print_way(
+        false,
+        shape,
+        way,
+        b", saves: calls 0, saved C, refused 5, longest file D",
+        tally,
+    );
+}
+
+fn print_way(page: bool, shape: usize, way: usize, counts: &[u8], tally: Tally) {
     print(
         page,
         shape,
         b"case 11|in order|reversed|stepped|drawn|prepared|respelled|charges drawn|charged|charge edges",
         way,
-        b": calls 0, found 1, absent 2, inserted 3, deleted 4, charged B, refused 5, most held 6, at the bound A",
+        counts,
         tally,
     );
 }
@@ -136,6 +165,30 @@ pub fn print_lent(page: bool, shape: usize, group: usize, tally: Tally) {
     );
 }
 
+// Prints the line of the saves on damaged memories of a table, or of those on memory of other lengths.
+pub fn print_refused_saves(page: bool, shape: usize, group: usize, tally: Tally) {
+    print(
+        page,
+        shape,
+        b"damaged|other lengths",
+        group,
+        b", saves: changes 8, calls 0, saved C, refused 5, longest file D",
+        tally,
+    );
+}
+
+// Prints the line of the saves of tables at an edge.
+pub fn print_edge_saves(shape: usize, group: usize, tally: Tally) {
+    print(
+        false,
+        shape,
+        b"empty|values|values|counts|full|charged",
+        group,
+        b", saves: calls 0, inserted 3, deleted 4, charged B, saved C, refused 5, longest file D",
+        tally,
+    );
+}
+
 // Prints a line: which index, the name of a shape, one among some names, a text in which digits stand for counts, and
 // the calls that did not agree.
 fn print(page: bool, shape: usize, names: &[u8], name: usize, counts: &[u8], tally: Tally) {
@@ -152,7 +205,7 @@ fn put_shape(line: &mut Line, at: usize, shape: usize) -> usize {
     texts::put_name(
         line,
         at,
-        b"roster, |alike, |bytes 0 and 255, |short, |any bytes, |longest, |spelled, |letters, |bytes 1 to 4, ",
+        b"roster, |alike, |bytes 0 and 255, |short, |any bytes, |longest, |spelled, |letters, |bytes 1 to 4, |widest, ",
         shape,
     )
 }
@@ -171,13 +224,16 @@ fn put_call(line: &mut Line, call: usize) -> usize {
     texts::put_name(
         line,
         at,
-        b"search |check |listing |view_check |view |insert |delete |layout |set_charge ",
+        b"search |check |listing |view_check |view |insert |delete |layout |set_charge |save ",
         call,
     )
 }
 
 fn put_fault(line: &mut Line, at: usize, fault: usize) -> usize {
     let next = texts::put_name(line, at, b": the ", 0);
+    if fault >= faults::OUTPUT {
+        return texts::put_name(line, next, b"output|bytes written", fault - faults::OUTPUT);
+    }
     texts::put_name(
         line,
         next,

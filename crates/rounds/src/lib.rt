@@ -2,6 +2,7 @@
 pub mod calls;
 mod hub;
 mod page;
+pub mod saves;
 pub mod states;
 
 use comparisons::answers;
@@ -27,6 +28,7 @@ pub fn made(image: &mut Image, map: &mut Lists, call: usize, label: &[u8], numbe
         kind: packing::kind(said),
         refusal: packing::refusal(said),
         reached: answers::reached(&found, label, shared, said),
+        written: 0,
     }
 }
 
@@ -41,5 +43,6 @@ pub fn tried(image: &Image, call: usize, label: &[u8], number: usize) -> Round {
         kind: packing::kind(said),
         refusal: packing::refusal(said),
         reached: false,
+        written: 0,
     }
 }

@@ -15,5 +15,7 @@ pub const DELETE: usize = 6;
 
 pub const LAYOUT: usize = 7;
 
-// The call that the hub's index alone has.
+// The calls that the hub's index alone has; the second leaves the memory too.
 pub const SET_CHARGE: usize = 8;
+
+pub const SAVE: usize = 9;

@@ -25,6 +25,8 @@ pub const SPELLED: usize = 6;
 pub const LETTERS: usize = 7;
 // One to three bytes of 1 to 4.
 pub const FOUR: usize = 8;
+// As many bytes as a label may have, told apart by the last four, some parting early from the others.
+pub const WIDEST: usize = 9;
 
 // Writes 66 bytes, the first of which are a shape's label, for an index of labels of so many bytes; gives its length.
 pub fn write(label: &mut Label, width: usize, shape: usize, k: usize) -> usize {
@@ -60,6 +62,7 @@ fn length(width: usize, shape: usize, k: usize) -> usize {
         LETTERS => k % 4 + 1,
         SPELLED => k / 4 % 14 + 7,
         LONGEST => longest_length(width, k),
+        WIDEST => width,
         _ => any_length(width, numbers::mixed(k, 66) % 100),
     }
 }
@@ -91,6 +94,7 @@ fn byte(width: usize, shape: usize, k: usize, i: usize) -> usize {
         LETTERS => letters_byte(k / 4, i),
         SPELLED => cased(name_byte(k / 4, i), is_capital(k % 4, i)),
         LONGEST => 122,
+        WIDEST => alike_byte(wrapping_sub_usize(width, 4), k, i),
         _ => numbers::mixed(k, i),
     }
 }

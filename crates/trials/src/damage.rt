@@ -1,4 +1,5 @@
 // The groups of calls on damaged memory: sound tables with words, bytes, rows or links changed.
+use crate::saves;
 use crate::sequences;
 use images::memory;
 use images::memory::Image;
@@ -19,42 +20,53 @@ use samples::shapes;
 use samples::shapes::Label;
 use std::num::wrapping_add_usize;
 
-// The calls that are made on memory: each by its number; the hub's, which sets a charge, once more.
+// The calls that are made on memory with a label: each by its number; the hub's, which sets a charge, once more.
 pub const ALL_CALLS: usize = 10;
 
-// Makes the changes of each kind on a table of a shape, and prints a line for each.
+// Makes the changes of each kind on a table of a shape, and prints a line for each, and for the saves of all.
 pub fn run(image: &Image, shape: usize) {
+    let mut saved = tallies::none();
     for kind in 0..KINDS {
-        run_kind(image, shape, kind);
+        run_kind(image, shape, kind, &mut saved);
+    }
+    if !memory::is_page(image) {
+        tallies::print_refused_saves(false, shape, 0, saved);
     }
 }
 
-fn run_kind(image: &Image, shape: usize, kind: usize) {
+fn run_kind(image: &Image, shape: usize, kind: usize, saved: &mut Tally) {
     if changes::times(shape, kind) > 0 {
-        let tally = group(image, shape, kind);
+        let tally = group(image, shape, kind, saved);
         tallies::print_damage(memory::is_page(image), shape, kind, tally);
     }
 }
 
-fn group(image: &Image, shape: usize, kind: usize) -> Tally {
+fn group(image: &Image, shape: usize, kind: usize, saved: &mut Tally) -> Tally {
     let mut tally = tallies::none();
     let mut seed = numbers::SEED;
     let n = changes::times(shape, kind);
     for i in 0..n {
         seed = numbers::next(seed);
-        let counted = change(image, shape, kind, seed, tally);
+        let counted = change(image, shape, kind, seed, tally, saved);
         tally = counted;
     }
     tally
 }
 
 // Draws a change until it is one, at most 20 times.
-fn change(image: &Image, shape: usize, kind: usize, seed: u64, tally: Tally) -> Tally {
+fn change(
+    image: &Image,
+    shape: usize,
+    kind: usize,
+    seed: u64,
+    tally: Tally,
+    saved: &mut Tally,
+) -> Tally {
     let mut after = tally;
     let mut draw = seed;
     for i in 0..20usize {
         if tallies::get(after, CHANGES) == tallies::get(tally, CHANGES) {
-            let counted = drawn(image, shape, kind, draw, tally);
+            let counted = drawn(image, shape, kind, draw, tally, saved);
             after = counted;
             draw = numbers::next(draw);
         }
@@ -63,15 +75,23 @@ fn change(image: &Image, shape: usize, kind: usize, seed: u64, tally: Tally) -> 
 }
 
 // Makes a change on a copy of the memory; where the copy differs, counts it and makes every call on it.
-fn drawn(image: &Image, shape: usize, kind: usize, seed: u64, tally: Tally) -> Tally {
+fn drawn(
+    image: &Image,
+    shape: usize,
+    kind: usize,
+    seed: u64,
+    tally: Tally,
+    saved: &mut Tally,
+) -> Tally {
     let mut copy = *image;
     if !changes::make(image, &mut copy, kind, seed) {
         return tally;
     }
+    saves::on_damaged(&copy, seed, saved);
     every(&copy, shape, kind, seed, tally)
 }
 
-// Makes every call on changed memory, with a label and a slot, and counts.
+// Makes every call but a save on changed memory, with a label and a slot, and counts.
 fn every(image: &Image, shape: usize, kind: usize, seed: u64, tally: Tally) -> Tally {
     let mut label = [0u8; 66];
     let width = memory::entry(image, memory::WIDTH);

@@ -1,9 +1,11 @@
 // The executed tests: the index beside a plain ordered map and a second writing of the paper, over whole rosters, calls
-// from a fixed generator, damaged memory and memory of other lengths. One line is printed for each group, and one for
-// each call that does not agree: the expected output has none.
+// from a fixed generator, saved files, damaged memory and memory of other lengths. One line is printed for each group,
+// and one for each call that does not agree: the expected output has none.
 mod damage;
 mod edges;
+mod files;
 mod lent;
+mod saves;
 mod sequences;
 
 use images::memory;
@@ -26,6 +28,8 @@ fn run_index(sizes: Sizes) {
     run(&mut image, &mut map);
     lent::run(&image);
     edges::run(&image);
+    saves::run_lent(&image);
+    files::run(&mut image, &mut map);
 }
 
 fn run(image: &mut Image, map: &mut Lists) {

@@ -1,4 +1,5 @@
-// The groups of calls on sound tables, made and counted.
+// The groups of calls on sound tables, made and counted, and of the hub's with saves among them.
+use crate::saves;
 use images::memory;
 use images::memory::Image;
 use plainmap::lists::Lists;
@@ -16,17 +17,26 @@ use samples::shapes;
 
 // Makes a group's calls on an empty index and map, and prints its line.
 pub fn run(image: &mut Image, map: &mut Lists, plan: Plan) {
+    empty(image, map);
+    let mut saved = tallies::none();
+    let tally = made(image, map, plan, &mut saved);
+    tallies::print_sequence(memory::is_page(image), plan.shape, plan.way, tally);
+    if !memory::is_page(image) {
+        tallies::print_saves(plan.shape, plan.way, saved);
+    }
+}
+
+// Empties an index and a map.
+pub fn empty(image: &mut Image, map: &mut Lists) {
     rounds::calls::make(image, samples::calls::LAYOUT, b"", 0);
     plainmap::clear(
         map,
         memory::entry(image, memory::SLOTS),
         memory::entry(image, memory::WIDTH),
     );
-    let tally = made(image, map, plan);
-    tallies::print_sequence(memory::is_page(image), plan.shape, plan.way, tally);
 }
 
-fn made(image: &mut Image, map: &mut Lists, plan: Plan) -> Tally {
+fn made(image: &mut Image, map: &mut Lists, plan: Plan, saved: &mut Tally) -> Tally {
     let mut tally = tallies::none();
     let mut seed = numbers::SEED;
     let n = groups::calls(plan);
@@ -35,15 +45,27 @@ fn made(image: &mut Image, map: &mut Lists, plan: Plan) -> Tally {
         let counted = call(image, map, groups::call(plan, i, seed), tally);
         tally = counted;
         seed = numbers::next(seed);
+        saves::after(image, map, i, saved);
     }
     tally
 }
 
 fn call(image: &mut Image, map: &mut Lists, planned: Planned, tally: Tally) -> Tally {
+    let number = number_of(planned, tallies::get(tally, tallies::INSERTED));
+    numbered(image, map, planned, number, tally)
+}
+
+// Makes a call with a value or a charge, and counts it.
+pub fn numbered(
+    image: &mut Image,
+    map: &mut Lists,
+    planned: Planned,
+    number: usize,
+    tally: Tally,
+) -> Tally {
     let mut label = [0u8; 66];
     let width = memory::entry(image, memory::WIDTH);
     let n = shapes::write(&mut label, width, planned.shape, planned.label);
-    let number = number_of(planned, tallies::get(tally, tallies::INSERTED));
     let round = labelled(image, map, planned, shapes::opening(&label, n), number);
     tallies::count(tally, planned.call, round, plainmap::held(map))
 }

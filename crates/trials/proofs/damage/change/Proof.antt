@@ -6,10 +6,10 @@ use Rattle.trials.proofs.damage.change.Statement.{statement}
 use Rattle.trials.proofs.damage.change.Tie as tie
 
 abbrev Inv-loop : tie.InvT-loop
-Inv-loop image shape kind seed tally after₀ draw₀ i₀ after draw i = i₀ ≤ i
+Inv-loop image shape kind seed tally saved₀ after₀ draw₀ i₀ saved after draw i = i₀ ≤ i
 
 abbrev μ-loop : tie.MeasureT-loop
-μ-loop image shape kind seed tally after₀ draw₀ i₀ after draw i = 20 - i
+μ-loop image shape kind seed tally saved₀ after₀ draw₀ i₀ saved after draw i = 20 - i
 
 loop-holds : tie.Need-loop-holds Inv-loop μ-loop
 loop-holds c = search needs

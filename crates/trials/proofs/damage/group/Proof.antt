@@ -6,10 +6,10 @@ use Rattle.trials.proofs.damage.group.Statement.{statement}
 use Rattle.trials.proofs.damage.group.Tie as tie
 
 abbrev Inv-loop : tie.InvT-loop
-Inv-loop image shape kind tally₀ seed₀ n i₀ tally seed i = i₀ ≤ i
+Inv-loop image shape kind saved₀ tally₀ seed₀ n i₀ saved tally seed i = i₀ ≤ i
 
 abbrev μ-loop : tie.MeasureT-loop
-μ-loop image shape kind tally₀ seed₀ n i₀ tally seed i = n - i
+μ-loop image shape kind saved₀ tally₀ seed₀ n i₀ saved tally seed i = n - i
 
 none-requires : tie.Need-none-requires Inv-loop μ-loop
 none-requires c κs = search needs

@@ -6,10 +6,10 @@ use Rattle.trials.proofs.sequences.made.Statement.{statement}
 use Rattle.trials.proofs.sequences.made.Tie as tie
 
 abbrev Inv-loop : tie.InvT-loop
-Inv-loop image₀ map₀ plan tally₀ seed₀ n i₀ image map tally seed i = i₀ ≤ i
+Inv-loop image₀ map₀ plan saved₀ tally₀ seed₀ n i₀ image map saved tally seed i = i₀ ≤ i
 
 abbrev μ-loop : tie.MeasureT-loop
-μ-loop image₀ map₀ plan tally₀ seed₀ n i₀ image map tally seed i = n - i
+μ-loop image₀ map₀ plan saved₀ tally₀ seed₀ n i₀ image map saved tally seed i = n - i
 
 none-requires : tie.Need-none-requires Inv-loop μ-loop
 none-requires c κs = search needs
@@ -31,6 +31,9 @@ call-requires-2 c κs = search needs
 
 next-requires-2 : tie.Need-next-requires-2 Inv-loop μ-loop
 next-requires-2 c κs = search needs
+
+after-requires : tie.Need-after-requires Inv-loop μ-loop
+after-requires c κs = search needs
 
 add-i : tie.Need-add-i Inv-loop μ-loop
 add-i c = search needs
@@ -57,6 +60,7 @@ made-spec =
     call-requires
     call-requires-2
     next-requires-2
+    after-requires
     add-i
     loop-less
     loop-again

@@ -1,0 +1,35 @@
+-- `trials::files::each` is safe and ends. The loop's invariant: its counter stays within its range. The measure is what
+-- is left of the range. Assumes nothing.
+use Prim.Native.Nat.{_≤_, _-_}
+use borrow.Author.Needs.{needs}
+use Rattle.trials.proofs.files.each.Statement.{statement}
+use Rattle.trials.proofs.files.each.Tie as tie
+
+abbrev Inv-loop : tie.InvT-loop
+Inv-loop image₀ map₀ call edge after₀ n k₀ image map after k = k ≤ n
+
+abbrev μ-loop : tie.MeasureT-loop
+μ-loop image₀ map₀ call edge after₀ n k₀ image map after k = n - k
+
+loop-holds : tie.Need-loop-holds Inv-loop μ-loop
+loop-holds c = search needs
+
+on-label-requires : tie.Need-on-label-requires Inv-loop μ-loop
+on-label-requires c κs = search needs
+
+add-k : tie.Need-add-k Inv-loop μ-loop
+add-k c = search needs
+
+loop-less : tie.Need-loop-less Inv-loop μ-loop
+loop-less c = search needs
+
+loop-again : tie.Need-loop-again Inv-loop μ-loop
+loop-again c = search needs
+
+returns : tie.Need-returns Inv-loop μ-loop
+returns c = search needs
+
+pub each-spec : {M : Type 1} → statement M
+each-spec =
+    tie.close
+    (tie.spec Inv-loop μ-loop loop-holds on-label-requires add-k loop-less loop-again returns)
