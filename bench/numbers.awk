@@ -107,6 +107,8 @@ END {
         bar(w, "check", "C test", factor, 0)
         bar(w, "delete", "C test before delete", factor, get("bar", "more"))
         bar(w, "insert", "C test before insert", factor, get("bar", "more"))
+        figure[w, "C test and save"] = get(w, "C test") + get(w, "C save")
+        compare(w, "save", "C test and save")
         figure[w, "save itself"] = less(w, "save", "check")
         compare(w, "save itself", "C save")
     }
