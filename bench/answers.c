@@ -1,7 +1,7 @@
 /* Compares the contestants' answers on every workload, before anything is measured. */
 #include "contestants.h"
 
-enum { CHANGED_BITS = 4000 };
+enum { CHANGED_BITS = 4000, CHANGED_FILES = 200 };
 
 /* The same answer but for the places, of which the second has as many or more. */
 static bool same_but_places(uint64_t said, uint64_t before)
@@ -139,6 +139,101 @@ static void compare_save(const struct workload *w)
         fail("a save into a longer output writes another file");
 }
 
+/* ---- loads */
+
+struct lent {
+    uint16_t table[WORDS];
+    uint8_t store[BYTES];
+};
+
+/* The file loaded by the index, into memory that holds anything, and by the plain C: they answer the same and leave the
+ * same, where they refuse what was there, else what is saved again as the same file. */
+static uint64_t load_both(const struct index *index, struct lent *loaded, const uint8_t *file, size_t n)
+{
+    static struct lent before, plain;
+    static uint8_t output[STRAP_FILE_BYTES];
+    for (size_t i = 0; i < sizeof before; i++)
+        ((uint8_t *)&before)[i] = (uint8_t)(i * 7 + n);
+    *loaded = plain = before;
+    uint64_t said = index->load(loaded->table, WORDS, loaded->store, BYTES, file, n);
+    if (said != index->plain_load(plain.table, WORDS, plain.store, BYTES, file, n))
+        fail("the load of the plain C answers otherwise");
+    if (memcmp(loaded, &plain, sizeof plain) != 0)
+        fail("the load of the plain C leaves another table or store");
+    if (strap_kind_of(said) == STRAP_REFUSED && memcmp(loaded, &before, sizeof before) != 0)
+        fail("a load that was refused changed table or store");
+    if (strap_kind_of(said) == STRAP_LOADED &&
+        (index->save(loaded->table, WORDS, loaded->store, BYTES, output, n) != pack(STRAP_SAVED, 0, 0, n, 0) ||
+         memcmp(output, file, n) != 0))
+        fail("what was loaded is saved as another file");
+    return said;
+}
+
+/* Where the label that is saved at this place of a file ends with its value. */
+static size_t after_saved(const uint8_t *file, size_t at)
+{
+    at += 1 + (size_t)file[at];
+    while (file[at] >= 128)
+        at++;
+    return at + 1;
+}
+
+/* A label of the file, drawn at random, exchanged with the one after it. */
+static void exchange_saved(const struct workload *w, uint8_t *file)
+{
+    static uint8_t held[2 * (WIDTH + 4)];
+    size_t at = w->labels.count < 128 ? 1 : 2;
+    for (size_t left = below(w->labels.count - 1); left > 0; left--)
+        at = after_saved(file, at);
+    size_t next = after_saved(file, at), end = after_saved(file, next);
+    memcpy(held, file + at, end - at);
+    memcpy(file + at, held + (next - at), end - next);
+    memcpy(file + at + (end - next), held, next - at);
+}
+
+/* The workload's file, cut short, with a byte more, with two labels exchanged, and with a bit changed. */
+static void compare_changed_files(const struct workload *w, uint8_t *file, size_t n)
+{
+    static uint8_t changed[STRAP_FILE_BYTES];
+    static struct lent loaded;
+    for (size_t k = 0; k < CHANGED_FILES; k++) {
+        size_t cut = k < 2 ? k * (n - 1) : below(n);
+        if (load_both(w->index, &loaded, file, cut) != refusal(STRAP_BROKEN_FILE))
+            fail("a file cut short is loaded");
+        memcpy(changed, file, n);
+        changed[below(n)] ^= (uint8_t)(1u << below(8));
+        load_both(w->index, &loaded, changed, n);
+        if (w->labels.count == 1)
+            continue;
+        memcpy(changed, file, n);
+        exchange_saved(w, changed);
+        if (load_both(w->index, &loaded, changed, n) != refusal(STRAP_NOT_ASCENDING))
+            fail("labels that do not ascend are loaded");
+    }
+    for (unsigned byte = 0; byte < 256; byte++) {
+        file[n] = (uint8_t)byte;
+        if (load_both(w->index, &loaded, file, n + 1) != refusal(STRAP_BYTES_AFTER))
+            fail("a byte after the last label is taken");
+    }
+}
+
+/* The workload's file gives what inserting its labels in file order gives. */
+static void compare_load(const struct workload *w)
+{
+    static uint8_t file[STRAP_FILE_BYTES + 1];
+    static uint16_t slots[SLOTS];
+    static struct lent loaded, entered;
+    const struct index *index = w->index;
+    size_t n = strap_written_of(index->save(w->table, WORDS, w->store, BYTES, file, sizeof file));
+    if (load_both(index, &loaded, file, n) != pack(STRAP_LOADED, 0, 0, w->labels.count, 0))
+        fail("a saved file is not loaded");
+    list_ascending(w, slots);
+    insert_in_order(w, slots, entered.table, entered.store);
+    if (memcmp(&loaded, &entered, sizeof entered) != 0)
+        fail("a load leaves another table or store than inserts in file order");
+    compare_changed_files(w, file, n);
+}
+
 void compare_answers(void)
 {
     for (int number = 0; number < WORKLOADS; number++) {
@@ -152,5 +247,7 @@ void compare_answers(void)
             each_update(w, compare_update);
         if (w->index->save != NULL)
             compare_save(w);
+        if (w->index->load != NULL)
+            compare_load(w);
     }
 }

@@ -347,6 +347,217 @@ static void saved_files(void)
     table[1] = 4;
     saves("save after all", n, file, n);
 }
+
+/* A file written out: its bytes, and how many. */
+#define WRITTEN(...) (const uint8_t[]){__VA_ARGS__}, sizeof((const uint8_t[]){__VA_ARGS__})
+
+static uint16_t table_before[WORDS];
+static uint8_t store_before[BYTES];
+
+static void keep(void)
+{
+    memcpy(table_before, table, sizeof table);
+    memcpy(store_before, store, sizeof store);
+}
+
+/* Table and store are those that were kept. */
+static void as_kept(const char *what)
+{
+    if (memcmp(table_before, table, sizeof table) != 0 || memcmp(store_before, store, sizeof store) != 0) {
+        fprintf(stderr, INDEX ": %s: another table or store\n", what);
+        failed = 1;
+    }
+}
+
+/* Table and store hold anything, two different things in turn. */
+static void spoil(void)
+{
+    static unsigned turn;
+    turn++;
+    for (size_t i = 0; i < WORDS; i++)
+        table[i] = (uint16_t)(turn % 2 == 0 ? 65535 : i * 40503u + turn);
+    for (size_t i = 0; i < BYTES; i++)
+        store[i] = (uint8_t)(turn % 2 == 0 ? 255 : i * 7 + turn);
+}
+
+/* A file is loaded into memory that holds anything: so many labels, on a sound table, and it is saved as the same. */
+static void loads(const char *what, const uint8_t *file, size_t n, unsigned labels)
+{
+    spoil();
+    uint64_t said = strap_load(table, WORDS, store, BYTES, file, n);
+    says(what, said, STRAP_LOADED, labels, 0);
+    counts(what, said, 0, 0);
+    says(what, check(), STRAP_DONE, 0, 0);
+    saves(what, n, file, n);
+    for (size_t slot = 1; slot <= labels; slot++)
+        if (strap_charge_in(table, slot) != STRAP_UNKNOWN_CHARGE)
+            says("a charge after a load", 0, STRAP_LOADED, labels, 0);
+}
+
+/* A load is refused, and leaves the memory as it was. */
+static void loads_nothing(const char *what, size_t words, size_t bytes, const uint8_t *file, size_t n,
+                          enum strap_refusal number)
+{
+    spoil();
+    keep();
+    refuses(what, strap_load(table, words, store, bytes, file, n), number);
+    as_kept(what);
+}
+
+static void broken(const char *what, const uint8_t *file, size_t n)
+{
+    loads_nothing(what, WORDS, BYTES, file, n, STRAP_BROKEN_FILE);
+}
+
+static void not_ascending(const char *what, const uint8_t *file, size_t n)
+{
+    loads_nothing(what, WORDS, BYTES, file, n, STRAP_NOT_ASCENDING);
+}
+
+static void bytes_after(const char *what, const uint8_t *file, size_t n)
+{
+    loads_nothing(what, WORDS, BYTES, file, n, STRAP_BYTES_AFTER);
+}
+
+/* Files written out by hand, and what they leave: what layout and inserts in file order leave; once also the words. */
+static void loaded_files(void)
+{
+    static const uint8_t file[] = {4, 1, 'a', 128, 1, 1, 'b', 10, 1, 'C', 0, 2, 'd', 'd', 255, 255, 3};
+    static const uint16_t words[] = {2, 4, 0, 4,                  /* root, held, free, high mark */
+                                     0, 0, 1, 1, 1, 1, 128, 255,  /* a */
+                                     1, 3, 1, 0, 2, 1, 10, 255,   /* b */
+                                     0, 4, 1, 0, 2, 1, 0, 255,    /* C */
+                                     0, 0, 1, 0, 1, 2, 65535, 255 /* dd */};
+    layout();
+    keep();
+    loads("load of nothing", WRITTEN(0), 0);
+    as_kept("load of nothing");
+    lies_between("a", 0, 0);
+    layout();
+    insert("a", 20);
+    keep();
+    loads("load of a", WRITTEN(1, 1, 'a', 20), 1);
+    as_kept("load of a");
+    says("search a, loaded", search("A"), STRAP_FOUND, 1, 20);
+    insert("b", 16384);
+    keep();
+    loads("load of a and b", WRITTEN(2, 1, 'a', 20, 1, 'b', 128, 128, 1), 2);
+    as_kept("load of a and b");
+    says("search b, loaded", search("b"), STRAP_FOUND, 2, 16384);
+    loads("load of a and a with a zero byte", WRITTEN(2, 1, 'a', 0, 2, 'a', 0, 0), 2);
+    loads("load of [ and Z", WRITTEN(2, 1, '[', 127, 1, 'Z', 255, 127), 2);
+    says("search z, loaded", search("z"), STRAP_FOUND, 2, 16383);
+    roster();
+    set_charge("c", 57);
+    loads("load of four", file, sizeof file, 4);
+    if (memcmp(table, words, sizeof words) != 0)
+        says("the words of four", 0, STRAP_LOADED, 4, 0);
+    keep();
+    layout();
+    insert("a", 128);
+    insert("b", 10);
+    insert("C", 0);
+    insert("dd", 65535);
+    as_kept("inserts of four");
+    says("search c, loaded", search("c"), STRAP_FOUND, 3, 0);
+    says("search dd, loaded", search("DD"), STRAP_FOUND, 4, 65535);
+    shows("the spelling loaded", 3, "C");
+    lies_between("da", 3, 4);
+    says("insert after a load", insert("da", 1), STRAP_UPDATED, 5, 0);
+    says("delete after a load", delete("b"), STRAP_UPDATED, 2, 0);
+    says("check after a load", check(), STRAP_DONE, 0, 0);
+}
+
+/* A table that was saved is loaded: other slots, the same labels, values and bytes. */
+static void loaded_again(void)
+{
+    static uint8_t file[STRAP_FILE_BYTES];
+    roster();
+    set_charge("a", 57);
+    size_t n = strap_written_of(strap_save(table, WORDS, store, BYTES, file, sizeof file));
+    loads("load of a save", file, n, 4);
+    says("search a, saved and loaded", search("a"), STRAP_FOUND, 1, 20);
+    says("search b, saved and loaded", search("b"), STRAP_FOUND, 2, 10);
+    says("search c, saved and loaded", search("c"), STRAP_FOUND, 3, 40);
+    says("search dd, saved and loaded", search("dd"), STRAP_FOUND, 4, 30);
+}
+
+/* Each refusal of a file, and each before those after it. */
+static void refused_files(void)
+{
+    static uint8_t file[2 + WIDTH + 2];
+    const uint8_t *none = file;
+    broken("18, no file", none, 0);
+    broken("18, count cut short", WRITTEN(128));
+    broken("18, count 0 of two groups", WRITTEN(128, 0));
+    broken("18, count 1 of three groups", WRITTEN(129, 128, 0, 1, 'a', 20));
+    broken("18, count 513", WRITTEN(129, 4));
+    broken("18, count 0 past 64 bits", WRITTEN(128, 128, 128, 128, 128, 128, 128, 128, 128, 2));
+    broken("18, count 1 past 32 bits", WRITTEN(129, 128, 128, 128, 16, 1, 'a', 20));
+    broken("18, count 1 past 16 bits", WRITTEN(129, 128, 4, 1, 'a', 20));
+    broken("18, no length", WRITTEN(1));
+    broken("18, length 0", WRITTEN(1, 0, 20));
+    broken("18, length cut short", WRITTEN(1, 129));
+    broken("18, length 1 of two groups", WRITTEN(1, 129, 0, 'a', 20));
+    broken("18, length 1 past 8 bits", WRITTEN(1, 129, 2, 'a', 20));
+    broken("18, label cut short", WRITTEN(1, 3, 'a', 'b'));
+    broken("18, no label", WRITTEN(1, 1));
+    broken("18, no value", WRITTEN(1, 1, 'a'));
+    broken("18, value cut short", WRITTEN(1, 1, 'a', 128));
+    broken("18, value cut short after two", WRITTEN(1, 1, 'a', 255, 255));
+    broken("18, value 0 of two groups", WRITTEN(1, 1, 'a', 128, 0));
+    broken("18, value 127 of two groups", WRITTEN(1, 1, 'a', 255, 0));
+    broken("18, value 1 of three groups", WRITTEN(1, 1, 'a', 129, 128, 0));
+    broken("18, value 65536", WRITTEN(1, 1, 'a', 128, 128, 4));
+    broken("18, value 65536 and 7", WRITTEN(1, 1, 'a', 135, 128, 4));
+    broken("18, value of four groups", WRITTEN(1, 1, 'a', 129, 128, 128, 1));
+    broken("18, no second label", WRITTEN(2, 1, 'a', 20));
+    broken("18 before 20", WRITTEN(1, 1, 'a', 128, 0, 7, 7));
+    memset(file, 'x', sizeof file);
+    file[0] = 1;
+    file[1] = WIDTH + 1;
+    broken("18, length 65", file, 2 + WIDTH + 2);
+    file[1] = WIDTH;
+    broken("18, the longest label's value", file, 2 + WIDTH);
+    loads("load of the longest label", file, 2 + WIDTH + 1, 1);
+    bytes_after("20, after the longest label", file, 2 + WIDTH + 2);
+    not_ascending("19, a label twice", WRITTEN(2, 1, 'a', 20, 1, 'a', 21));
+    not_ascending("19, a label respelled", WRITTEN(2, 1, 'a', 20, 1, 'A', 21));
+    not_ascending("19, a label respelled in small", WRITTEN(2, 2, 'A', 'B', 20, 2, 'a', 'b', 21));
+    not_ascending("19, descending", WRITTEN(2, 1, 'b', 10, 1, 'a', 20));
+    not_ascending("19, Z and [", WRITTEN(2, 1, 'Z', 10, 1, '[', 20));
+    not_ascending("19, aa and a", WRITTEN(2, 2, 'a', 'a', 10, 1, 'a', 20));
+    not_ascending("19, the third", WRITTEN(3, 1, 'a', 10, 1, 'c', 20, 1, 'b', 30));
+    not_ascending("19 before the next label's 18", WRITTEN(3, 1, 'b', 10, 1, 'a', 20, 0));
+    not_ascending("19 before 20", WRITTEN(2, 1, 'b', 10, 1, 'a', 20, 0));
+    broken("18 of the length before 19", WRITTEN(2, 1, 'b', 10, 129, 0, 'a', 20));
+    broken("18 of the bytes before 19", WRITTEN(2, 2, 'b', 'b', 10, 2, 'a'));
+    broken("18 of the value before 19", WRITTEN(2, 1, 'b', 10, 1, 'a', 128, 128, 4));
+    broken("18 of no value before 19", WRITTEN(2, 1, 'b', 10, 1, 'a'));
+    bytes_after("20, after nothing", WRITTEN(0, 0));
+    bytes_after("20, after a", WRITTEN(1, 1, 'a', 20, 1, 'b', 10));
+    loads_nothing("1, a word less", WORDS - 1, BYTES, WRITTEN(0), STRAP_WRONG_TABLE);
+    loads_nothing("2, a byte less", WORDS, BYTES - 1, WRITTEN(0), STRAP_WRONG_STORE);
+    loads_nothing("1 before 2 and 18", OTHER_WORDS, OTHER_BYTES, none, 0, STRAP_WRONG_TABLE);
+    loads_nothing("2 before 18", WORDS, OTHER_BYTES, none, 0, STRAP_WRONG_STORE);
+    loads_nothing("2 before 19", WORDS, 0, WRITTEN(2, 1, 'b', 10, 1, 'a', 20), STRAP_WRONG_STORE);
+    loads_nothing("1 before 20", 0, BYTES, WRITTEN(0, 0), STRAP_WRONG_TABLE);
+}
+
+/* A hundred groups that go on, in place of each number, ended or not. */
+static void endless_numbers(void)
+{
+    static const uint8_t before[] = {1, 1, 'a'};
+    uint8_t file[sizeof before + 101];
+    for (size_t at = 0; at <= sizeof before; at++)
+        if (at != 2) {
+            memcpy(file, before, sizeof before);
+            memset(file + at, 128, 100);
+            file[at + 100] = 1;
+            broken("18, a hundred groups", file, at + 100);
+            broken("18, a hundred groups and one", file, at + 101);
+        }
+}
 #endif
 
 /* Three digits in ascending order: the label of slot i + 1 in a full table. */
@@ -403,6 +614,54 @@ static void saved_full(void)
     saves("save of the longest", n, file, n);
     saves("save of the longest into more", n + 1, file, n);
     saves_nothing("17, of the longest", WORDS, BYTES, n - 1, STRAP_SHORT_OUTPUT);
+    keep();
+    loads("load of the longest", file, n, SLOTS);
+    as_kept("load of the longest");
+    broken("18, the longest cut short", file, n - 1);
+}
+
+/* A file of so many labels, each with its number as its value; and how long it is. */
+static size_t write_labels(uint8_t *file, unsigned labels)
+{
+    size_t n = 0;
+    file[n++] = (uint8_t)(128 + labels % 128);
+    file[n++] = (uint8_t)(labels / 128);
+    for (unsigned i = 0; i < labels; i++) {
+        char label[3];
+        spell(label, i);
+        file[n++] = 3;
+        memcpy(file + n, label, 3);
+        n += 3;
+        if (i >= 128)
+            file[n++] = (uint8_t)(128 + i % 128);
+        file[n++] = (uint8_t)(i >= 128 ? i / 128 : i);
+    }
+    return n;
+}
+
+/* Files of as many labels as there are slots, of a byte more, and of one label more. */
+static void loaded_full(void)
+{
+    static uint8_t file[2 + 6 * (SLOTS + 1)];
+    char label[4] = "000";
+    size_t n = write_labels(file, SLOTS);
+    layout();
+    for (unsigned i = 0; i < SLOTS; i++) {
+        spell(label, i);
+        insert(label, (uint16_t)i);
+    }
+    keep();
+    loads("load of all", file, n, SLOTS);
+    as_kept("load of all");
+    for (unsigned i = 0; i < SLOTS; i++) {
+        spell(label, i);
+        says("search of all, loaded", search(label), STRAP_FOUND, i + 1, i);
+    }
+    refuses("9, after a load", insert("a", 1), STRAP_FULL);
+    file[n] = 0;
+    bytes_after("20, after all", file, n + 1);
+    n = write_labels(file, SLOTS + 1);
+    broken("18, a label more than all", file, n);
 }
 #endif
 
@@ -416,10 +675,15 @@ int each_call(void)
 #ifndef PAGE
     charges_set();
     saved_files();
+    loaded_files();
+    loaded_again();
+    refused_files();
+    endless_numbers();
 #endif
     full();
 #ifndef PAGE
     saved_full();
+    loaded_full();
 #endif
     return failed;
 }

@@ -38,6 +38,12 @@ void each_update(const struct workload *w, void (*make)(const struct update *));
 /* Makes an update, and sees that it is not refused. */
 void update(const struct update *u);
 
+/* Lists the slots of a workload's labels, in ascending order of these. */
+void list_ascending(const struct workload *w, uint16_t *slots);
+
+/* Lays out memory of the workload's index, and inserts the labels of these slots into it, one after another. */
+void insert_in_order(const struct workload *w, const uint16_t *slots, uint16_t *table, uint8_t *store);
+
 /* The words of bench: in answers.c, counts.c and times.c. */
 void compare_answers(void);
 void print_workloads(void);

@@ -137,6 +137,22 @@ static void count_save(int number, const struct workload *w)
     dump(number, "C save", 1);
 }
 
+/* The file of a workload's table is loaded, and its labels are inserted in file order into an empty table. */
+static void count_load(int number, const struct workload *w)
+{
+    static uint16_t table[WORDS], slots[SLOTS];
+    static uint8_t store[BYTES], file[STRAP_FILE_BYTES];
+    const struct index *index = w->index;
+    size_t n = strap_written_of(index->save(w->table, index->words, w->store, index->bytes, file, sizeof file));
+    list_ascending(w, slots);
+    COUNTED(kept = kept + index->load(table, index->words, store, index->bytes, file, n));
+    dump(number, "load", 1);
+    COUNTED(kept = kept + index->plain_load(table, index->words, store, index->bytes, file, n));
+    dump(number, "C load", 1);
+    COUNTED(insert_in_order(w, slots, table, store));
+    dump(number, "inserts", 1);
+}
+
 /* What is counted of the updates: the calls of one kind, or a test of the memory that such a call finds. */
 struct counted {
     const char *name;
@@ -183,6 +199,8 @@ void count_instructions(void)
             count_tests(number, w);
             if (w->index->save != NULL)
                 count_save(number, w);
+            if (w->index->load != NULL && w->table_name != NULL)
+                count_load(number, w);
             count_updates(number, w);
         }
         CALLGRIND_STOP_INSTRUMENTATION;

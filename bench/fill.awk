@@ -12,7 +12,7 @@ function commas(n) { return n < 1000 ? n : commas(int(n / 1000)) sprintf(",%03d"
 
 function shown(w, what,   v) {
     v = get(w, what)
-    if (v !~ /^[0-9.]+$/ || w == "bar" && v < 1) return v
+    if (v !~ /^[0-9.]+$/ || w == "bar" && v ~ /[.]/) return v
     if (what ~ /^(visits|places)/) return sprintf("%.1f", v)
     return what ~ /ratio$/ ? sprintf("%.3f", v) : commas(int(v + 0.5))
 }

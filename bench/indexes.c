@@ -15,10 +15,13 @@ const struct index hub = {
     .sound_check = sound_check,
     .save = strap_save,
     .plain_save = plain_save,
+    .load = strap_load,
+    .plain_load = plain_load,
     .whole_search = whole_search,
     .whole_counts = whole_counts,
     .insert = strap_insert,
     .delete = strap_delete,
+    .listing = strap_listing,
     .view = strap_view,
 };
 
@@ -38,5 +41,6 @@ const struct index page = {
     .whole_counts = page_whole_counts,
     .insert = strap_page_insert,
     .delete = strap_page_delete,
+    .listing = strap_page_listing,
     .view = strap_page_view,
 };

@@ -27,6 +27,13 @@ function bar(w, what, against, factor, more,   limit) {
     missed += get(w, what) > limit
 }
 
+# The same where the bar is set; elsewhere the ratio alone.
+function bar_if(set, w, what, against, factor, more) {
+    figure[w, what " verdict"] = "none"
+    if (set) bar(w, what, against, factor, more)
+    else compare(w, what, against)
+}
+
 # A contestant's ratio to the index, of one kind: on how many of the nine it is over 1 and under, the least and the
 # greatest.
 function tally(who, kind,   i, ratio, over, under, least, most) {
@@ -65,8 +72,7 @@ function derive_searches(series,   i, c, w) {
 function derive_named(series, limited,   i, c, w) {
     for (i = 1; i <= size[series]; i++) {
         w = list[series, i]
-        if (limited) bar(w, "index", "C, same method", get("bar", "search"), 0)
-        else compare(w, "index", "C, same method")
+        bar_if(limited, w, "index", "C, same method", get("bar", "search"), 0)
         figure[w, "index time"] = spread(w, "index", get(w, "index ns"), "%.0f")
         for (c = 1; c <= contestants; c++) derive_ratios(w, contestant[c])
     }
@@ -78,6 +84,8 @@ BEGIN {
     figure["bar", "alike"] = "0.30"
     figure["bar", "other"] = "0.45"
     figure["bar", "more"] = 5000
+    figure["bar", "load"] = "3.0"
+    figure["bar", "inserts"] = "0.1"
     contestants = split("C, same method;C, tuned;AVL, whole labels;sorted array;std::map;BTreeMap", contestant, ";")
     contestant[0] = "index"
     kinds = split("instructions best lower median upper", kind, " ")
@@ -103,7 +111,8 @@ END {
         compare(list["absent", i], "places, limit", "places, limit by length")
     for (i = 1; i <= size["tables"]; i++) {
         w = list["tables", i]
-        factor = get("bar", get(w, "table") ~ /sharing/ ? "alike" : "other")
+        alike = get(w, "table") ~ /sharing/
+        factor = get("bar", alike ? "alike" : "other")
         bar(w, "check", "C test", factor, 0)
         bar(w, "delete", "C test before delete", factor, get("bar", "more"))
         bar(w, "insert", "C test before insert", factor, get("bar", "more"))
@@ -111,6 +120,9 @@ END {
         compare(w, "save", "C test and save")
         figure[w, "save itself"] = less(w, "save", "check")
         compare(w, "save itself", "C save")
+        bar_if(alike, w, "load", "C load", get("bar", "load"), 0)
+        figure[w, "load beside inserts"] = get(w, "load")
+        bar_if(alike, w, "load beside inserts", "inserts", get("bar", "inserts"), -1) # under it
     }
     w = list["page tables", 1]
     compare(w, "check", "C test")

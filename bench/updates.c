@@ -1,4 +1,4 @@
-/* Labels of a workload taken out and put back, one after another. */
+/* Labels of a workload taken out and put back, one after another; and all of them put into an empty table. */
 #include "contestants.h"
 #include <string.h>
 
@@ -24,5 +24,24 @@ void each_update(const struct workload *w, void (*make)(const struct update *))
         make(&u);
         u.inserts = true;
         make(&u);
+    }
+}
+
+void list_ascending(const struct workload *w, uint16_t *slots)
+{
+    const struct index *index = w->index;
+    uint64_t said = index->listing(w->table, index->words, w->store, index->bytes, slots, index->slots);
+    if (said != pack(STRAP_LISTED, 0, 0, w->labels.count, 0))
+        fail("a listing was refused");
+}
+
+void insert_in_order(const struct workload *w, const uint16_t *slots, uint16_t *table, uint8_t *store)
+{
+    const struct index *index = w->index;
+    if (index->layout(table, index->words, store, index->bytes) != pack(STRAP_DONE, 0, 0, 0, 0))
+        fail("layout refused");
+    for (size_t i = 0; i < w->labels.count; i++) {
+        size_t k = slots[i] - 1u;
+        update(&(struct update){true, w->labels.at[k].bytes, w->labels.at[k].len, value_at(k), index, table, store});
     }
 }

@@ -1,15 +1,16 @@
-/* The strap label index for C99 and C++: the ten calls of the hub's index, in the proved static library `exports`, and
- * the same, but for strap_set_charge and strap_save, of the pairing page's own small index, in `page_exports`.
+/* The strap label index for C99 and C++: the eleven calls of the hub's index, in the proved static library `exports`,
+ * and the same, but for strap_set_charge, strap_save and strap_load, of the pairing page's own small index, in
+ * `page_exports`.
  *
  * Build a library with `rt staticlib exports` or `rt staticlib page_exports`, and link target/staticlib/libexports.a,
  * libpage_exports.a or both (x86-64 Linux).
  *
  * Labels are compared with A to Z as a to z, and kept as they were first spelled.
  *
- * A lent part (table, store, label, list, output) passes as its pointer and its length in elements. Any length and any
- * content is taken: a call answers, or refuses by a number below; a refused call has changed nothing. The contracts
- * stand in crates/exports/src/lib.rt and crates/page_exports/src/lib.rt, and crates/packs/specs/Packed.antt defines the
- * packing.
+ * A lent part (table, store, label, list, output, file) passes as its pointer and its length in elements. Any length
+ * and any content is taken: a call answers, or refuses by a number below; a refused call has changed nothing. The
+ * contracts stand in crates/exports/src/lib.rt and crates/page_exports/src/lib.rt, and crates/packs/specs/Packed.antt
+ * defines the packing.
  *
  * What is asked of a caller, since no proof reaches past the library:
  *   - each pointer is not null, is aligned for its type, and reaches as many elements as its length says, all of them
@@ -49,24 +50,28 @@ enum strap_kind {
     STRAP_DONE = 4,    /* nothing more */
     STRAP_LISTED = 5,  /* one: how many slots were written */
     STRAP_VIEWED = 6,  /* one: where in the store the label begins; other: its length */
-    STRAP_SAVED = 7    /* one: how many bytes were written */
+    STRAP_SAVED = 7,   /* one: how many bytes were written */
+    STRAP_LOADED = 8   /* one: how many labels were loaded */
 };
 
 /* Why a call is refused; of those that apply, the first in this order. The sizes are those of the index called. */
 enum strap_refusal {
-    STRAP_WRONG_TABLE = 1,   /* table not of its words: all calls */
-    STRAP_WRONG_STORE = 2,   /* store not of its bytes: all calls */
-    STRAP_EMPTY_LABEL = 3,   /* label of length 0: search, insert, delete, set_charge */
-    STRAP_LONG_LABEL = 4,    /* label longer than its width: search, insert, delete, set_charge */
-    STRAP_WRONG_CHARGE = 24, /* a charge neither 0 to 100 nor STRAP_UNKNOWN_CHARGE: set_charge */
-    STRAP_WRONG_SLOT = 11,   /* slot 0 or above its slots, or the length word there is 0 or above its width: the view */
-    STRAP_BROKEN_WALK = 5,   /* the walk met a link or a row that cannot be: search */
-    STRAP_NOT_SOUND = 6,     /* table and store are not sound: insert, delete, set_charge, check, listing, save */
-    STRAP_ALREADY_HELD = 7,  /* the label is held already, in this or another spelling: insert */
-    STRAP_NOT_HELD = 8,      /* the label is not held: delete, set_charge */
-    STRAP_FULL = 9,          /* as many labels are held as it has slots: insert */
-    STRAP_SHORT_LIST = 10,   /* list shorter than the labels held: listing */
-    STRAP_SHORT_OUTPUT = 17  /* output shorter than the file: save */
+    STRAP_WRONG_TABLE = 1,    /* table not of its words: all calls */
+    STRAP_WRONG_STORE = 2,    /* store not of its bytes: all calls */
+    STRAP_BROKEN_FILE = 18,   /* a number or a label cut short, needless groups, or a number outside its limit: load */
+    STRAP_NOT_ASCENDING = 19, /* a label not above the one before it; after its own 18: load */
+    STRAP_BYTES_AFTER = 20,   /* bytes after the last label: load */
+    STRAP_EMPTY_LABEL = 3,    /* label of length 0: search, insert, delete, set_charge */
+    STRAP_LONG_LABEL = 4,     /* label longer than its width: search, insert, delete, set_charge */
+    STRAP_WRONG_CHARGE = 24,  /* a charge neither 0 to 100 nor STRAP_UNKNOWN_CHARGE: set_charge */
+    STRAP_WRONG_SLOT = 11,    /* slot 0 or above its slots, or its length word is 0 or above its width: the view */
+    STRAP_BROKEN_WALK = 5,    /* the walk met a link or a row that cannot be: search */
+    STRAP_NOT_SOUND = 6,      /* table and store are not sound: insert, delete, set_charge, check, listing, save */
+    STRAP_ALREADY_HELD = 7,   /* the label is held already, in this or another spelling: insert */
+    STRAP_NOT_HELD = 8,       /* the label is not held: delete, set_charge */
+    STRAP_FULL = 9,           /* as many labels are held as it has slots: insert */
+    STRAP_SHORT_LIST = 10,    /* list shorter than the labels held: listing */
+    STRAP_SHORT_OUTPUT = 17   /* output shorter than the file: save */
 };
 
 /* ---- the parts of an answer */
@@ -77,7 +82,7 @@ static inline unsigned strap_visits_of(uint64_t answer) { return (unsigned)(answ
 static inline unsigned strap_one_of(uint64_t answer) { return (unsigned)(answer >> 32 & 65535); }
 static inline unsigned strap_other_of(uint64_t answer) { return (unsigned)(answer >> 48 & 65535); }
 
-/* by the kind: refused; found or updated; found; absent; listed; viewed; saved */
+/* by the kind: refused; found or updated; found; absent; listed; viewed; saved; loaded */
 static inline unsigned strap_refusal_of(uint64_t answer) { return strap_one_of(answer); }
 static inline unsigned strap_slot_of(uint64_t answer) { return strap_one_of(answer); }
 static inline unsigned strap_value_of(uint64_t answer) { return strap_other_of(answer); }
@@ -87,6 +92,7 @@ static inline unsigned strap_count_of(uint64_t answer) { return strap_one_of(ans
 static inline unsigned strap_start_of(uint64_t answer) { return strap_one_of(answer); }
 static inline unsigned strap_length_of(uint64_t answer) { return strap_other_of(answer); }
 static inline unsigned strap_written_of(uint64_t answer) { return strap_one_of(answer); }
+static inline unsigned strap_loaded_of(uint64_t answer) { return strap_one_of(answer); }
 
 /* ---- the calls; each may answer STRAP_REFUSED, and else what stands above it */
 
@@ -127,6 +133,12 @@ uint64_t strap_listing(const uint16_t *table, size_t words, const uint8_t *store
 uint64_t strap_save(const uint16_t *table, size_t words, const uint8_t *store, size_t bytes, uint8_t *output,
                     size_t room);
 
+/* STRAP_LOADED: table and store, whatever they held, are those that inserting the file's labels in file order into an
+ * empty table leaves; no charge is known. A file that strap_save wrote is taken, and so is no other: a save of what was
+ * loaded writes the same bytes. The whole file is read before anything is written. Labels are checked in file order,
+ * each wholly, its length, bytes and value by 18, then its order by 19, before the next. */
+uint64_t strap_load(uint16_t *table, size_t words, uint8_t *store, size_t bytes, const uint8_t *file, size_t n);
+
 /* STRAP_DONE: the slot's label can be viewed. */
 uint64_t strap_view_check(const uint16_t *table, size_t words, const uint8_t *store, size_t bytes, size_t slot);
 
@@ -134,7 +146,7 @@ uint64_t strap_view_check(const uint16_t *table, size_t words, const uint8_t *st
 uint64_t strap_view(const uint16_t *table, size_t words, const uint8_t *store, size_t bytes, size_t slot);
 
 /* The same calls of the page's index, which keeps charges by the same rule. It has no call that sets one, and none that
- * saves. */
+ * saves or loads. */
 uint64_t strap_page_layout(uint16_t *table, size_t words, uint8_t *store, size_t bytes);
 uint64_t strap_page_search(const uint16_t *table, size_t words, const uint8_t *store, size_t bytes,
                            const uint8_t *label, size_t n);

@@ -10,7 +10,7 @@ use Rattle.trees.specs.Plain.{Call, search, insert, delete}
 use Rattle.tables.specs.Words.{rootLink, rowAt}
 use Rattle.tables.specs.Written.{Memory}
 use Rattle.tables.specs.Outcomes.{searchOutcome, layoutOutcome}
-use Rattle.tables.specs.Claims.{callOutcome}
+use Rattle.tables.specs.Claims.{callOutcome, afterList}
 use Rattle.tables.specs.MapClaims.{labelIn}
 
 -- what a case asks, after its calls
@@ -44,10 +44,6 @@ asked (call k) m = answers (callOutcome hub k m .answer)
 asked (prefix x) m = fields (rowAt (m .table) (slotOf m x) .place) (rowAt (m .table) (slotOf m x) .side)
 asked root m = root-is (labelIn hub m (rootLink (m .table))) (rootLink (m .table))
 asked (balance x) m = leans (rowAt (m .table) (slotOf m x) .balance)
-
-abbrev pub afterCalls : List Call → Memory → Memory
-afterCalls [] m = m
-afterCalls (k ∷ calls) m = afterCalls calls (callOutcome hub k m .memory)
 
 -- what layout leaves of a table and a store of the hub's lengths
 abbrev pub laidOut : Memory
@@ -137,5 +133,5 @@ findings cases m = map (λ row. asked (row .asks) m) cases
 -- The claim: each case shows what the table says.
 abbrev pub StarredCases : Type 0
 StarredCases =
-    map (λ scene. findings (scene .cases) (afterCalls (scene .calls) laidOut)) starred
+    map (λ scene. findings (scene .cases) (afterList hub (scene .calls) laidOut)) starred
     ≡ map (λ scene. map (λ row. row .shows) (scene .cases)) starred

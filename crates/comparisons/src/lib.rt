@@ -3,6 +3,7 @@
 pub mod answers;
 mod charges;
 pub mod judged;
+pub mod loads;
 mod maps;
 pub mod saves;
 pub mod states;

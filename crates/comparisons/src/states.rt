@@ -14,6 +14,11 @@ pub fn fault(found: &Image, left: &Image, map: &Lists, call: usize, said: usize)
     if !memory_agrees(found, left, call, said) {
         return faults::MEMORY;
     }
+    map_fault(left, map)
+}
+
+// The fault of memory that is to hold what the map does.
+pub fn map_fault(left: &Image, map: &Lists) -> usize {
     if !sound::is_sound(left) {
         return faults::SOUND;
     }

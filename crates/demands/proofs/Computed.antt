@@ -20,9 +20,8 @@ use Rattle.tables.specs.Steps.{isBad, walkFromRoot, searchSteps}
 use Rattle.tables.specs.Sound.{wordsAndBytes, counted, soundAs, sound, stateOf}
 use Rattle.tables.specs.Outcomes.{Outcome, walkAnswer, searchOutcome, layoutOutcome, updateOutcome, listingOutcome}
 use Rattle.cases.specs.Cases.{a, b, c, d, roster, three, laidOut}
-use Rattle.tables.specs.Claims.{LabelFits}
+use Rattle.tables.specs.Claims.{LabelFits, afterList}
 use Rattle.tables.specs.MapClaims.{labelIn}
-use Rattle.demands.specs.Counts.{afterList}
 use Rattle.demands.specs.Ties.{stepsBefore, tiesMet}
 use Rattle.demands.specs.Trials.{Fair, stepOnBoth}
 use Rattle.demands.specs.UpdateTrials.{lastNumbers}

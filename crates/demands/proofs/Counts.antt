@@ -15,8 +15,8 @@ use Rattle.trees.specs.Plain.{State, fresh, Call, search, plainStep}
 use Rattle.tables.specs.Written.{Memory}
 use Rattle.tables.specs.Steps.{searchSteps}
 use Rattle.tables.specs.Outcomes.{layoutOutcome, visitsOf}
-use Rattle.tables.specs.Claims.{LabelFits, SearchAgrees, callOutcome, CallsAgree, CostRule}
-use Rattle.demands.specs.Counts.{afterList, Few, CountsWithin}
+use Rattle.tables.specs.Claims.{LabelFits, SearchAgrees, callOutcome, afterList, CallsAgree, CostRule}
+use Rattle.demands.specs.Counts.{Few, CountsWithin}
 
 module _ (limits : Limits) (x : Label) (fits : LabelFits limits x) where
   -- A search that agrees with the full comparison search has few visits and places.

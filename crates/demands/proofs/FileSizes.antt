@@ -1,5 +1,6 @@
 -- The longest file.
 -- saves-within: of words of 16 bits, no more is written than the longest file has.
+-- fit-read: the pairs of a tree that such words represent fit.
 use mathlib.Core.Bool.{Bool, true, false, not}
 use mathlib.Core.List.{List}
 use mathlib.Core.Path.{_≡_, refl, ap}
@@ -42,7 +43,7 @@ module _ (limits : Limits) (m : Memory) (words : (i : ℕ) → getD (m .table) i
   value-is-word {e} own = rw (← ap (λ (row : Row). row .value) (own .row)) (words (slotStart (e .slot) + 6))
 
   -- The pairs of a represented tree fit.
-  fit-read : (p s : Neighbour) (t : Tree) → Represents limits (m .table) (m .store) p s t
+  pub fit-read : (p s : Neighbour) (t : Tree) → Represents limits (m .table) (m .store) p s t
       → FitIn (limits .width) (mapOf t)
   fit-read p s empty there = fit-none
   fit-read p s (node l e r) (own, of-l, of-r) =

@@ -8,6 +8,7 @@
 -- hub-shared-limit, hub-length-limit, hub-no-smaller-limit: limits on places, the second from the first.
 -- hub-charge-rule: word 7 on sound tables.
 -- hub-saves-map, hub-saves-within: saved files, and their 34,818 bytes at most.
+-- hub-loads-files: loads of saved files.
 use native.Mathlib.Omega.{arith}
 use Rattle.types.specs.Sizes.{hub, page}
 use Rattle.tables.proofs.Depths.{hub-depth}
@@ -22,6 +23,7 @@ use Rattle.demands.specs.Ties.{TieSaves}
 use Rattle.demands.specs.NextTo.{TrueNeighbours}
 use Rattle.demands.specs.Charges.{ChargeRule}
 use Rattle.demands.specs.Saves.{SavesMap, SavesWithin}
+use Rattle.demands.specs.Loads.{LoadsFiles}
 use Rattle.demands.specs.PlaceLimits.{SharedLimit, LengthLimit, NoSmallerLimit}
 use Rattle.demands.proofs.CostRule.{cost-rule}
 use Rattle.demands.proofs.OrderedMap.{ordered-map}
@@ -35,6 +37,7 @@ use Rattle.demands.proofs.NextTo.{true-neighbours}
 use Rattle.demands.proofs.ChargeRule.{charge-rule}
 use Rattle.demands.proofs.Saves.{saves-map}
 use Rattle.demands.proofs.FileSizes.{saves-within}
+use Rattle.demands.proofs.Loads.{loads-files}
 use Rattle.demands.proofs.PlaceLimits.{shared-limit, length-limit}
 use Rattle.demands.proofs.Sharp.{no-smaller-limit}
 
@@ -100,3 +103,7 @@ hub-saves-map = saves-map hub hub-depth
 pub hub-saves-within : SavesWithin hub 34818
 unfolding groupsWithin groupsOf
 hub-saves-within = saves-within hub hub-depth
+
+-- A load of the hub leaves a sound table of its file's labels and values, and saving it again yields the same bytes.
+pub hub-loads-files : LoadsFiles hub
+hub-loads-files = loads-files hub hub-depth

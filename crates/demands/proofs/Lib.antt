@@ -26,6 +26,9 @@ pub mod Sharp
 pub mod ChargeRule
 pub mod Saves
 pub mod FileSizes
+pub mod LoadInserts
+pub mod SavedTaken
+pub mod Loads
 pub mod Hub
 pub mod Page
 pub mod SoundAfter
@@ -37,3 +40,4 @@ pub mod RefutedCalls
 pub mod RefutedLimits
 pub mod RefutedCharges
 pub mod RefutedSaves
+pub mod RefutedLoads

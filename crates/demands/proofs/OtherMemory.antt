@@ -13,6 +13,7 @@ use Rattle.tables.specs.Outcomes.{Verdict, refuse, line, ofMemory, searchOutcom
 use Rattle.tables.specs.Outcomes.{listingOutcome, layoutOutcome, updateOutcome, insertOutcome, deleteOutcome}
 use Rattle.tables.specs.Outcomes.{chargeOutcome}
 use Rattle.files.specs.Saves.{saveOutcome}
+use Rattle.files.specs.Loads.{loadOutcome}
 use Rattle.demands.specs.OtherMemory.{AllRefused}
 
 module _ (limits : Limits) (table store : List ℕ) (other : length table ≡ tableLength limits → ⊥) where
@@ -28,7 +29,7 @@ module _ (limits : Limits) (table store : List ℕ) (other : length table ≡ ta
   -- Each call refuses a table of another length by 1.
   pub wrong-table-refused : AllRefused limits table store
   unfolding searchOutcome checkOutcome viewOutcome viewPart listingOutcome layoutOutcome updateOutcome insertOutcome
-      deleteOutcome chargeOutcome saveOutcome
+      deleteOutcome chargeOutcome saveOutcome loadOutcome
   wrong-table-refused = record {
     layout = rw first-refused;
     search = λ x. rw first-refused;
@@ -40,4 +41,5 @@ module _ (limits : Limits) (table store : List ℕ) (other : length table ≡ ta
     view = λ k. rw first-refused;
     part = λ k. rw first-refused;
     save = λ output. rw first-refused;
+    load = λ file. rw first-refused;
   }

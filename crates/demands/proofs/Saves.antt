@@ -2,6 +2,7 @@
 -- saves-map: a save with room writes the file of the map, one without is refused by 17; the file depends on the labels
 -- and the values alone, so a charge set changes none.
 -- saving-of-sound: on a sound table only the length of the output is left to test.
+-- saving-with-room: with room the file is written in front of the output.
 use mathlib.Core.Bool.{Bool, true, false}
 use mathlib.Core.List.{List, _++_}
 use mathlib.Core.Path.{_≡_, refl, sym, ap, _∙_}
@@ -53,7 +54,7 @@ module _ (limits : Limits) where
 
   module _ (m : Memory) (sound : Sound limits m) (output : List ℕ) where
     -- With room the file is written in front of the output.
-    saving-with-room : length (fileIn limits m) ≤ length output
+    pub saving-with-room : length (fileIn limits m) ≤ length output
         → savingOf limits m output
         ≡ record {
           answer = saved (length (fileIn limits m));

@@ -12,8 +12,7 @@ use Rattle.trees.specs.Valid.{Valid}
 use Rattle.trees.proofs.ValidSteps.{valid-fresh, valid-after}
 use Rattle.tables.specs.Written.{written}
 use Rattle.tables.specs.Outcomes.{layoutOutcome}
-use Rattle.tables.specs.Claims.{Sound}
-use Rattle.demands.specs.Counts.{afterList}
+use Rattle.tables.specs.Claims.{Sound, afterList}
 use Rattle.demands.proofs.Fresh.{laid-out-is-fresh}
 use Rattle.demands.proofs.CostRule.{call-agrees}
 use Rattle.demands.proofs.OnSound.{sound-out}

@@ -1,6 +1,6 @@
 -- What the cost rule says of the counts of one search in a list of calls ('The cost rule' of document 01), and where a
 -- walk breaks on any memory.
-use mathlib.Core.List.{List, [], _∷_}
+use mathlib.Core.List.{List}
 use mathlib.Core.Path.{_≡_}
 use Prim.Native.Nat.{ℕ, _≤_, _<_}
 use lib.ListN.{length}
@@ -9,15 +9,9 @@ use Rattle.types.specs.Sizes.{tableLength, storeLength}
 use Rattle.labels.specs.Labels.{Label}
 use Rattle.trees.specs.Plain.{Call}
 use Rattle.tables.specs.Words.{rootLink}
-use Rattle.tables.specs.Written.{Memory}
 use Rattle.tables.specs.Steps.{Walk, broken, steps, searchSteps}
 use Rattle.tables.specs.Outcomes.{layoutOutcome, visitsOf, placesOf}
-use Rattle.tables.specs.Claims.{LabelFits, callOutcome}
-
--- what a list of calls leaves
-abbrev pub afterList : Limits → List Call → Memory → Memory
-afterList limits [] m = m
-afterList limits (c ∷ calls) m = afterList limits calls (callOutcome limits c m .memory)
+use Rattle.tables.specs.Claims.{LabelFits, afterList}
 
 -- a walk that is not broken, visits at most so many nodes and examines at most so many places
 pub record Few (visits places : ℕ) (w : Walk) : Type 0 where

@@ -6,6 +6,7 @@ pub mod NextTo
 pub mod PlaceLimits
 pub mod Charges
 pub mod Saves
+pub mod Loads
 pub mod LimitTrials
 pub mod Trials
 pub mod NeighbourTrials
@@ -13,3 +14,4 @@ pub mod UpdateTrials
 pub mod CallTrials
 pub mod ChargeTrials
 pub mod SaveTrials
+pub mod LoadTrials

@@ -7,10 +7,12 @@ use Rattle.types.specs.declared.Limits.{Limits}
 use Rattle.types.specs.Sizes.{tableLength}
 use Rattle.types.specs.Answers.{refused}
 use Rattle.types.specs.SaveReplies as replies
+use Rattle.types.specs.LoadReplies as load-replies
 use Rattle.labels.specs.Labels.{Label}
 use Rattle.tables.specs.Outcomes.{Outcome, Listing, layoutOutcome, searchOutcome, insertOutcome, deleteOutcome}
 use Rattle.tables.specs.Outcomes.{chargeOutcome, checkOutcome, listingOutcome, viewOutcome, viewPart}
 use Rattle.files.specs.Saves.{saveOutcome}
+use Rattle.files.specs.Loads.{loadOutcome}
 
 -- refused by 1, with all lent memory as it was
 abbrev pub wrongTable : (table store : List ℕ) → Outcome
@@ -34,6 +36,10 @@ pub record AllRefused (limits : Limits) (table store : List ℕ) : Type 0 where
   pub save :
       (output : List ℕ)
       → saveOutcome limits table store output ≡ record { answer = replies.refused 1; output = output }
+  pub load :
+      (file : List ℕ)
+      → loadOutcome limits table store file
+      ≡ record { answer = load-replies.refused 1; memory = record { table = table; store = store } }
 
 -- The claim: each call of an index refuses another's table by 1, whatever it and the store hold.
 abbrev pub RefusesTableOf : (called other : Limits) → Type 0

@@ -12,9 +12,9 @@ use Rattle.trees.specs.Plain.{Call, insert, soughtBy}
 use Rattle.tables.specs.Written.{Memory}
 use Rattle.tables.specs.Steps.{Walk, broken, searchSteps}
 use Rattle.tables.specs.Outcomes.{visitsOf, placesOf}
-use Rattle.tables.specs.Claims.{Sound, LabelFits, callOutcome}
+use Rattle.tables.specs.Claims.{Sound, LabelFits, callOutcome, afterList}
 use Rattle.tables.specs.MapClaims.{labelsIn}
-use Rattle.cases.specs.Cases.{a, d, roster, afterCalls, laidOut}
+use Rattle.cases.specs.Cases.{a, d, roster, laidOut}
 
 -- a limit that reads labels alone: how many bytes it allows for a sought label, with these held
 abbrev pub ByteLimit : Type 0
@@ -74,8 +74,8 @@ pub record AtLimit (limits : Limits) (m : Memory) (x : Label) (visits bytes : �
 -- The claim, of two cases of document 01: "aa" of case 3, which is not held, examines 1 + 1 places, and "dd" of case 7,
 -- which is, 2 + 2.
 pub record CasesAtLimit : Type 0 where
-  pub three : AtLimit hub (afterCalls (insert (a ∷ []) 5 ∷ []) laidOut) (a ∷ a ∷ []) 1 1
-  pub seven : AtLimit hub (afterCalls roster laidOut) (d ∷ d ∷ []) 2 2
+  pub three : AtLimit hub (afterList hub (insert (a ∷ []) 5 ∷ []) laidOut) (a ∷ a ∷ []) 1 1
+  pub seven : AtLimit hub (afterList hub roster laidOut) (d ∷ d ∷ []) 2 2
 
 -- The claim: no limit that reads labels alone allows fewer bytes, with one label held, whatever the two labels are.
 abbrev pub NoSmallerLimit : Limits → Type 0

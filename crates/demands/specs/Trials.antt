@@ -14,10 +14,9 @@ use Rattle.tables.specs.Words.{labelsHeld}
 use Rattle.tables.specs.Written.{Memory}
 use Rattle.tables.specs.Steps.{go-left, StepRule, isTie, stepAt, Walk, walkFromRoot}
 use Rattle.tables.specs.Outcomes.{Outcome, visitsOf, placesOf, walkAnswer, searchOutcome, updateOutcome}
-use Rattle.tables.specs.Claims.{Sound, LabelFits}
+use Rattle.tables.specs.Claims.{Sound, LabelFits, afterList}
 use Rattle.tables.specs.MapClaims.{labelIn}
 use Rattle.cases.specs.Cases.{a, d, roster, laidOut}
-use Rattle.demands.specs.Counts.{afterList}
 use Rattle.demands.specs.Ties.{stepsBefore}
 
 -- ---- the contracts

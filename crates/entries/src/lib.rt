@@ -15,25 +15,12 @@ pub fn entry_length(label: &[u8], value: u16) -> usize
     groups::count(label.len()) + (label.len() + groups::count(value as usize))
 }
 
-// Writes bytes, and gives the next position.
-pub fn put_bytes(output: &mut [u8], at: usize, bytes: &[u8]) -> usize
-    requires { ⌜ HasRoom (now bytes) at (now output) ⌝ }
-    ensures { λ r. ⌜ Filled (now (bytes .entry)) (now (output .entry)) at (now (output .exit)) r ⌝ }
-{
-    let mut i = 0;
-    while i < bytes.len() {
-        output[at + i] = bytes[i];
-        i += 1;
-    }
-    at + i
-}
-
 // Writes the entry of a label with its value, and gives the next position.
 pub fn put_entry(output: &mut [u8], at: usize, label: &[u8], value: u16) -> usize
     requires { ⌜ HasRoom (entryOf (now label) value) at (now output) ⌝ }
     ensures { λ r. ⌜ Filled (entryOf (now (label .entry)) value) (now (output .entry)) at (now (output .exit)) r ⌝ }
 {
     let start = groups::put(output, at, label.len());
-    let end = put_bytes(output, start, label);
+    let end = words::runs::put_bytes(output, start, label);
     groups::put(output, end, value as usize)
 }

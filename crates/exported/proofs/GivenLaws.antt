@@ -1,7 +1,7 @@
 -- What an exported call gives, from what the index gives.
 -- `packed-as`: an answer equal to a defined one is packed as that.
--- `packs-as`, `packs-list-as`, `packs-save-as`: the same for a call that may change the memory, for a listing and for a
--- save.
+-- `packs-as`, `packs-list-as`, `packs-save-as`, `packs-load-as`: the same for a call that may change the memory, for a
+-- listing, for a save and for a load.
 -- `start-fits`, `shown-packed`, `hidden-packed`: the view's part, by what the first call said.
 use mathlib.Core.List.{List}
 use mathlib.Core.Path.{_≡_, refl, sym, ap, ap₂, _∙_}
@@ -14,6 +14,7 @@ use Rattle.types.specs.declared.DoneAnswer.{DoneAnswer}
 use Rattle.types.specs.declared.DoneAnswer.the-variants.{Done, Refused}
 use Rattle.types.specs.Answers.{Answer, done, refused, refusalNumber, doneSays}
 use Rattle.types.specs.SaveReplies.{SaveReply}
+use Rattle.types.specs.LoadReplies.{LoadReply}
 use Rattle.tables.specs.Words.{partStart}
 use Rattle.tables.specs.Outcomes.{Outcome, Listing, Verdict, pass, refuse, answerBy, viewVerdict, viewOutcome, viewPart}
 use Rattle.tables.specs.Given.{Gives}
@@ -23,8 +24,9 @@ use Rattle.views.proofs.ViewLaws.{view-start}
 use Rattle.lists.specs.Given.{Lists}
 use Rattle.words.specs.Limits.{LimitsFit}
 use Rattle.files.specs.Saves.{Saving, Saves}
-use Rattle.packs.specs.Packed.{packed, packedSave, packedPart}
-use Rattle.exported.specs.Given.{viewedBy, packedView, Packs, PacksList, PacksSave}
+use Rattle.files.specs.Loads.{Loading, Loads}
+use Rattle.packs.specs.Packed.{packed, packedSave, packedLoad, packedPart}
+use Rattle.exported.specs.Given.{viewedBy, packedView, Packs, PacksList, PacksSave, PacksLoad}
 use Rattle.labels.proofs.Clashes.{clash}
 
 module _ (given : ℕ) where
@@ -50,6 +52,12 @@ module _ (given : ℕ) where
       → Saves saving said bytes → PacksSave saving given bytes
   packs-save-as saving said bytes packs saves =
       record { answer = packs ∙ ap packedSave (saves .answer); output = saves .output }
+
+  -- The same for a load.
+  pub packs-load-as : (loading : Loading) (said : LoadReply) (words bytes : List ℕ) → given ≡ packedLoad said
+      → Loads loading said words bytes → PacksLoad loading given words bytes
+  packs-load-as loading said words bytes packs loads =
+      record { answer = packs ∙ ap packedLoad (loads .answer); table = loads .table; store = loads .store }
 
 -- A verdict that passes shows the part, at its start; one that refuses gives its number.
 part-shown : (v : Verdict) (start len : ℕ) → done ≡ answerBy v done

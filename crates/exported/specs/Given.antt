@@ -8,7 +8,8 @@ use Rattle.types.specs.Answers.{refused}
 use Rattle.tables.specs.Outcomes.{Outcome, Listing, Verdict, pass, refuse, viewVerdict, viewPart}
 use Rattle.views.specs.Parts.{viewStart}
 use Rattle.files.specs.Saves.{Saving}
-use Rattle.packs.specs.Packed.{packed, packedSave, packedPart}
+use Rattle.files.specs.Loads.{Loading}
+use Rattle.packs.specs.Packed.{packed, packedSave, packedLoad, packedPart}
 
 -- a call that may change the table and the store
 pub record Packs (outcome : Outcome) (given : ℕ) (words bytes : List ℕ) : Type 0 where
@@ -25,6 +26,12 @@ pub record PacksList (listing : Listing) (given : ℕ) (words : List ℕ) : Type
 pub record PacksSave (saving : Saving) (given : ℕ) (bytes : List ℕ) : Type 0 where
   pub answer : given ≡ packedSave (saving .answer)
   pub output : bytes ≡ saving .output
+
+-- a load
+pub record PacksLoad (loading : Loading) (given : ℕ) (words bytes : List ℕ) : Type 0 where
+  pub answer : given ≡ packedLoad (loading .answer)
+  pub table : words ≡ loading .memory .table
+  pub store : bytes ≡ loading .memory .store
 
 -- the view's two calls in one number: the part's start and length, or the refusal
 abbrev pub viewedBy : Verdict → (start len : ℕ) → ℕ

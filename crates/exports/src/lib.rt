@@ -10,7 +10,8 @@ ghost use Rattle.tables.specs.Outcomes.{layoutOutcome, searchOutcome, insertOut
 ghost use Rattle.tables.specs.Outcomes.{chargeOutcome, listingOutcome, viewOutcome};
 ghost use Rattle.packs.specs.Packed.{packed};
 ghost use Rattle.files.specs.Saves.{saveOutcome};
-ghost use Rattle.exported.specs.Given.{packedView, Packs, PacksList, PacksSave};
+ghost use Rattle.files.specs.Loads.{loadOutcome};
+ghost use Rattle.exported.specs.Given.{packedView, Packs, PacksList, PacksSave, PacksLoad};
 
 // Lays out an empty table.
 #[no_mangle]
@@ -96,6 +97,16 @@ pub extern "C" fn strap_save(table: &[u16], store: &[u8], output: &mut [u8]) -> 
         r (now (output .exit)) ⌝ }
 {
     packs::packed_save(index::save(table, store, output))
+}
+
+// Loads a saved file into table and store, whatever they hold.
+#[no_mangle]
+pub extern "C" fn strap_load(table: &mut [u16], store: &mut [u8], file: &[u8]) -> usize
+    ensures { λ r. ⌜
+        PacksLoad (loadOutcome hub (now (table .entry)) (now (store .entry)) (now (file .entry)))
+        r (now (table .exit)) (now (store .exit)) ⌝ }
+{
+    packs::packed_load(index::load(table, store, file))
 }
 
 // Whether the view of a slot's label is refused.

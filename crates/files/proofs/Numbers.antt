@@ -5,14 +5,14 @@
 use mathlib.Core.List.{List, _∷_, _++_}
 use mathlib.Core.Bool.{Bool}
 use mathlib.Core.Path.{_≡_, sym, ap}
-use Prim.Native.Nat.{ℕ, zero, suc, _+_, _-_, _*_, _/_, _%_, _≤_, _<_}
+use Prim.Native.Nat.{ℕ, zero, suc, _+_, _-_, _*_, _/_, _%_, _≤_}
 use native.Mathlib.Omega.{arith}
 use lib.ListN.{length}
-use borrow.Author.Tests.{lt-ltb, le-ltb}
 use Rattle.labels.proofs.Numbers.{Ltb, lt-yes, lt-no, ltb-view}
-use Rattle.files.specs.Groups.{groupsOf, InGroups, last-group, lower-group, number, above, readNumber}
+use Rattle.files.specs.Groups.{groupsOf, InGroups, last-group, lower-group, number, readNumber}
 use Rattle.files.specs.Groups.{NumbersInGroups}
 use Rattle.files.proofs.GroupLaws.{groups-of-last, groups-of-lower, some-group}
+use Rattle.files.proofs.NumberReads.{read-last, read-lower}
 
 -- The groups of a number are that number written in groups.
 in-groups-within : (most n : ℕ) → n ≤ most → InGroups (groupsOf n) n
@@ -48,16 +48,6 @@ no-other (lower-group n more upper) short =
         absurd (omega (arith, some-group (n / 128), ap length (groups-of-last n small)))
     by-test (lt-no large) some short deeper =
         rw (groups-of-lower n large, deeper (omega (arith, ap length (groups-of-lower n large))))
-
--- A group below 128 ends a number.
-read-last : (byte : ℕ) (rest : List ℕ) → byte < 128 → readNumber (byte ∷ rest) ≡ number byte rest
-unfolding readNumber
-read-last byte rest small = rw (lt-ltb byte 128 small, readNumber)
-
--- Any other has its seven lowest bits, and what follows is read above them.
-read-lower : (byte : ℕ) (rest : List ℕ) → 128 ≤ byte → readNumber (byte ∷ rest) ≡ above (byte - 128) (readNumber rest)
-unfolding readNumber
-read-lower byte rest large = rw (le-ltb byte 128 large, readNumber)
 
 -- Read back, the groups of a number give it, whatever follows.
 read-within : (most n : ℕ) (rest : List ℕ) → n ≤ most → readNumber (groupsOf n ++ rest) ≡ number n rest

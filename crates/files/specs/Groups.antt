@@ -26,17 +26,17 @@ pub data InGroups : List ℕ → ℕ → Type 0 where
   last-group : (n : ℕ) → n < 128 → InGroups (n ∷ []) n
   lower-group : (n : ℕ) (more : List ℕ) → InGroups more (n / 128) → InGroups ((128 + n % 128) ∷ more) n
 
--- a number read from the front of bytes, with those after it; or they end first
+-- a number read from the front of bytes, with those after it; or none, as where they end first
 pub data NumberRead : Type 0 where
-  cut-short : NumberRead
+  no-number : NumberRead
   number : (n : ℕ) (rest : List ℕ) → NumberRead
 
 abbrev pub above : ℕ → NumberRead → NumberRead
-above low cut-short = cut-short
+above low no-number = no-number
 above low (number n rest) = number (low + 128 * n) rest
 
 unfoldable pub readNumber : List ℕ → NumberRead
-readNumber [] = cut-short
+readNumber [] = no-number
 readNumber (byte ∷ rest) =
     elim (ltb byte 128) [
       | true ↦ number byte rest

@@ -1,3 +1,5 @@
 pub mod Groups
 pub mod Files
 pub mod Saves
+pub mod FileReads
+pub mod Loads

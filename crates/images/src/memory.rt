@@ -254,6 +254,20 @@ pub fn fresh(sizes: Sizes) -> Image {
     image
 }
 
+// Fills the words of the table and the bytes of the store with what no index left there, another for each number.
+pub fn spoil(image: &mut Image, number: usize) {
+    for i in 0..4101usize {
+        image[8 + i] = ((number % 65536 + 40503 * i) % 65536) as u16;
+    }
+    spoil_bytes(image, number);
+}
+
+fn spoil_bytes(image: &mut Image, number: usize) {
+    for i in 0..32769usize {
+        image[4622 + i] = ((number % 256 + 167 * i) % 256) as u16;
+    }
+}
+
 // The memory is lent to the index of these sizes.
 pub fn call(image: &mut Image, sizes: Sizes) {
     put(image, SLOTS, sizes.slots);

@@ -1,4 +1,5 @@
-// The output lent to a save: bytes of one array, from its front on, as many as a test says.
+// The output lent to a save, or the file lent to a load: bytes of one array, from its front on, as many as a test
+// says.
 pub type Output = [u8; 34850];
 
 // The bytes of the array: 32 more than the longest file.

@@ -2,7 +2,7 @@
 
 // The kinds: a refusal's number; slot and value, with both counts; the slots of the nearest smaller and the nearest
 // larger label, with both counts; the slot, with both counts; nothing; how many slots; how many bytes; how many
-// bytes written.
+// bytes written; how many labels loaded.
 pub const REFUSED: usize = 0;
 
 pub const FOUND: usize = 1;
@@ -18,6 +18,8 @@ pub const LISTED: usize = 5;
 pub const VIEWED: usize = 6;
 
 pub const SAVED: usize = 7;
+
+pub const LOADED: usize = 8;
 
 // An answer with both counts of a search.
 pub fn counted(kind: usize, visits: usize, places: usize, one: usize, other: usize) -> usize {

@@ -4,6 +4,7 @@ pub mod page;
 
 use types::DoneAnswer;
 use types::ListAnswer;
+use types::LoadAnswer;
 use types::SaveAnswer;
 use types::SearchAnswer;
 use types::UpdateAnswer;
@@ -11,12 +12,14 @@ ghost use mathlib.Core.Path.{_≡_};
 ghost use Rattle.types.specs.Sizes.{hub};
 ghost use Rattle.types.specs.Answers.{searchSays, updateSays, doneSays, listSays};
 ghost use Rattle.types.specs.SaveReplies.{saveSays};
+ghost use Rattle.types.specs.LoadReplies.{loadSays};
 ghost use Rattle.tables.specs.Outcomes.{layoutOutcome, searchOutcome, insertOutcome, deleteOutcome};
 ghost use Rattle.tables.specs.Outcomes.{chargeOutcome, checkOutcome, listingOutcome, viewOutcome};
 ghost use Rattle.tables.specs.Given.{Gives};
 ghost use Rattle.views.specs.Parts.{Views};
 ghost use Rattle.lists.specs.Given.{Lists};
 ghost use Rattle.files.specs.Saves.{saveOutcome, Saves};
+ghost use Rattle.files.specs.Loads.{loadOutcome, Loads};
 
 // Lays out an empty table: every word and byte becomes 0. Refused by 1 and 2.
 pub fn layout(table: &mut [u16], store: &mut [u8]) -> DoneAnswer
@@ -88,6 +91,16 @@ pub fn save(table: &[u16], store: &[u8], output: &mut [u8]) -> SaveAnswer
         (saveSays r) (now (output .exit)) ⌝ }
 {
     saves::save_within(types::hub(), table, store, output)
+}
+
+// Loads a saved file, whatever table and store hold: they become those that inserting its labels in file order into a
+// fresh table leaves. Gives the number of its labels. Refused by 1, 2, 18, 19 and 20.
+pub fn load(table: &mut [u16], store: &mut [u8], file: &[u8]) -> LoadAnswer
+    ensures { λ r. ⌜
+        Loads (loadOutcome hub (now (table .entry)) (now (store .entry)) (now (file .entry)))
+        (loadSays r) (now (table .exit)) (now (store .exit)) ⌝ }
+{
+    loads::load_within(types::hub(), table, store, file)
 }
 
 // Whether the view of a slot's label is refused: by 1, 2 or 11.

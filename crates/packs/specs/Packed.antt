@@ -2,8 +2,10 @@
 use mathlib.Core.Path.{_≡_}
 use Prim.Native.Nat.{ℕ, _+_, _*_, _/_, _%_, _<_}
 use Rattle.types.specs.Answers.{Answer, found, absent, updated, listed, done, refused}
-use Rattle.types.specs.SaveReplies as replies
+use Rattle.types.specs.SaveReplies as saves
 use Rattle.types.specs.SaveReplies.{SaveReply, saved}
+use Rattle.types.specs.LoadReplies as loads
+use Rattle.types.specs.LoadReplies.{LoadReply, loaded}
 
 -- From the lowest bits: 4 of kind, 12 of places, 16 of visits, then 16 and 16.
 -- A number too large for its bits is cut to them.
@@ -27,7 +29,12 @@ packed (refused number) = parts 0 0 0 number 0
 -- The kind 7: a save, with the number of bytes written; a refused one is packed as any refusal.
 abbrev pub packedSave : SaveReply → ℕ
 packedSave (saved bytes) = parts 7 0 0 bytes 0
-packedSave (replies.refused number) = packed (refused number)
+packedSave (saves.refused number) = packed (refused number)
+
+-- The kind 8: a load, with the number of labels loaded; a refused one is packed as any refusal.
+abbrev pub packedLoad : LoadReply → ℕ
+packedLoad (loaded count) = parts 8 0 0 count 0
+packedLoad (loads.refused number) = packed (refused number)
 
 -- The kind 6: the view's part, where it begins in the store and how long it is.
 abbrev pub packedPart : (start len : ℕ) → ℕ

@@ -1,6 +1,7 @@
 // An answer packed in one number of 64 bits, for callers in languages that know no enum of the index.
 use types::DoneAnswer;
 use types::ListAnswer;
+use types::LoadAnswer;
 use types::Refusal;
 use types::SaveAnswer;
 use types::SearchAnswer;
@@ -8,7 +9,8 @@ use types::UpdateAnswer;
 ghost use mathlib.Core.Path.{_≡_};
 ghost use Rattle.types.specs.Answers.{refused, refusalNumber, searchSays, updateSays, doneSays, listSays};
 ghost use Rattle.types.specs.SaveReplies.{saveSays};
-ghost use Rattle.packs.specs.Packed.{parts, packed, packedSave, packedPart};
+ghost use Rattle.types.specs.LoadReplies.{loadSays};
+ghost use Rattle.packs.specs.Packed.{parts, packed, packedSave, packedLoad, packedPart};
 
 // The five numbers of an answer in one, each cut to its bits.
 pub fn packed(kind: usize, places: usize, visits: usize, one: usize, other: usize) -> usize
@@ -89,6 +91,16 @@ pub fn packed_save(said: SaveAnswer) -> usize
     match said {
         SaveAnswer::Saved(bytes) => packed(7, 0, 0, bytes, 0),
         SaveAnswer::Refused(refusal) => packed_refusal(refusal),
+    }
+}
+
+// A load's answer in one number.
+pub fn packed_load(said: LoadAnswer) -> usize
+    ensures { λ r. ⌜ r ≡ packedLoad (loadSays said) ⌝ }
+{
+    match said {
+        LoadAnswer::Loaded(count) => packed(8, 0, 0, count, 0),
+        LoadAnswer::Refused(refusal) => packed_refusal(refusal),
     }
 }
 

@@ -4,6 +4,7 @@
 pub mod files;
 pub mod labels;
 pub mod lists;
+pub mod loads;
 
 use lists::Lists;
 use std::num::wrapping_add_usize;

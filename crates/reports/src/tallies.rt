@@ -7,12 +7,12 @@ use samples::calls::INSERT;
 use samples::calls::SET_CHARGE;
 use std::num::wrapping_add_usize;
 
-pub type Tally = [usize; 14];
+pub type Tally = [usize; 18];
 
 // The counts of a tally: the calls; of these the searches that found the label or did not, the updates, and those
 // refused; the most labels held; the calls that did not agree; the changes of the memory, and those of them that left
 // the table sound; the calls whose search reached the bound by shared bytes; the charges set; the files written, and
-// the bytes of the longest.
+// the bytes of the longest; the files loaded, and those refused by 18, 19 and 20.
 pub const CALLS: usize = 0;
 
 pub const FOUND: usize = 1;
@@ -41,12 +41,23 @@ pub const SAVED: usize = 12;
 
 pub const LONGEST: usize = 13;
 
+pub const LOADED: usize = 14;
+
+pub const BROKEN: usize = 15;
+
+pub const NOT_ASCENDING: usize = 16;
+
+pub const BYTES_AFTER: usize = 17;
+
+// No count, and no shape.
+const NONE: usize = 18;
+
 pub fn none() -> Tally {
-    [0usize; 14]
+    [0usize; 18]
 }
 
 pub fn get(tally: Tally, k: usize) -> usize {
-    if k < 14 {
+    if k < 18 {
         return tally[k];
     }
     0
@@ -54,7 +65,7 @@ pub fn get(tally: Tally, k: usize) -> usize {
 
 fn set(tally: Tally, k: usize, x: usize) -> Tally {
     let mut t = tally;
-    if k < 14 {
+    if k < 18 {
         t[k] = x;
     }
     t
@@ -86,7 +97,18 @@ pub fn count(tally: Tally, call: usize, round: Round, held: usize) -> Tally {
     let most = at_least(ended, MOST, held);
     let reached = one_more_if(most, REACHED, round.reached);
     let longest = at_least(reached, LONGEST, round.written);
-    one_more_if(longest, MISMATCHES, round.fault > 0)
+    let turned = one_more(longest, file_refusal(round.refusal));
+    one_more_if(turned, MISMATCHES, round.fault > 0)
+}
+
+// Which count a refusal of a file goes to; that of any other refusal is none.
+fn file_refusal(number: usize) -> usize {
+    match number {
+        18 => BROKEN,
+        19 => NOT_ASCENDING,
+        20 => BYTES_AFTER,
+        _ => NONE,
+    }
 }
 
 // Which count a call's end goes to, by the kind of its answer.
@@ -96,6 +118,7 @@ fn end_of(call: usize, kind: usize) -> usize {
         1 => FOUND,
         2 => ABSENT,
         7 => SAVED,
+        8 => LOADED,
         _ => updates_end(call),
     }
 }
@@ -126,6 +149,17 @@ pub fn print_saves(shape: usize, way: usize, tally: Tally) {
         shape,
         way,
         b", saves: calls 0, saved C, refused 5, longest file D",
+        tally,
+    );
+}
+
+// Prints the line of the loads of what such a group saved.
+pub fn print_loads(shape: usize, way: usize, tally: Tally) {
+    print_way(
+        false,
+        shape,
+        way,
+        b", loads: calls 0, saved C, longest file D, loaded E, refused 5, most held 6",
         tally,
     );
 }
@@ -189,6 +223,43 @@ pub fn print_edge_saves(shape: usize, group: usize, tally: Tally) {
     );
 }
 
+// Prints the line of the loads of files at an edge.
+pub fn print_edge_loads(shape: usize, group: usize, tally: Tally) {
+    print(
+        false,
+        shape,
+        b"empty|values|values|counts|full|charged",
+        group,
+        b", loads: calls 0, saved C, longest file D, loaded E, broken F, not ascending G, bytes after H, most held 6",
+        tally,
+    );
+}
+
+// Prints the line of the loads of a shape's file cut short, of the same with a byte changed, or of files written out,
+// loaded into memory of other lengths.
+pub fn print_file_loads(page: bool, shape: usize, group: usize, tally: Tally) {
+    print(
+        page,
+        shape,
+        b"cut short|one byte|other lengths",
+        group,
+        b", loads: changes 8, calls 0, loaded E, refused 5, broken F, not ascending G, bytes after H",
+        tally,
+    );
+}
+
+// Prints the line of the loads of a group of files written out.
+pub fn print_written_loads(group: usize, tally: Tally) {
+    print(
+        false,
+        NONE,
+        b"taken|counts|lengths|labels|values|long numbers|order|order last|order first|ends|rosters",
+        group,
+        b" written out, loads: calls 0, loaded E, broken F, not ascending G, bytes after H, most held 6",
+        tally,
+    );
+}
+
 // Prints a line: which index, the name of a shape, one among some names, a text in which digits stand for counts, and
 // the calls that did not agree.
 fn print(page: bool, shape: usize, names: &[u8], name: usize, counts: &[u8], tally: Tally) {
@@ -224,7 +295,7 @@ fn put_call(line: &mut Line, call: usize) -> usize {
     texts::put_name(
         line,
         at,
-        b"search |check |listing |view_check |view |insert |delete |layout |set_charge |save ",
+        b"search |check |listing |view_check |view |insert |delete |layout |set_charge |save |load ",
         call,
     )
 }

@@ -35,7 +35,7 @@ fn put_if(line: &mut Line, at: usize, byte: u8, wanted: bool) -> usize {
     at
 }
 
-// Puts a text in which each hexadecimal digit, 0 to 9 and A to F, stands for the count of that number.
+// Puts a text in which each digit and each capital letter, A from 10 on, stands for the count of that number.
 pub fn put_counts(line: &mut Line, start: usize, text: &[u8], tally: Tally) -> usize {
     let mut at = start;
     for i in 0..text.len() {
@@ -47,7 +47,7 @@ pub fn put_counts(line: &mut Line, start: usize, text: &[u8], tally: Tally) -> u
 fn put_counted(line: &mut Line, at: usize, byte: u8, tally: Tally) -> usize {
     match byte {
         48..=57 => put_number(line, at, tallies::get(tally, wide(byte - 48))),
-        65..=70 => put_number(line, at, tallies::get(tally, wide(byte - 55))),
+        65..=90 => put_number(line, at, tallies::get(tally, wide(byte - 55))),
         _ => put_byte(line, at, byte),
     }
 }

@@ -1,6 +1,7 @@
 // Calls of the index, each compared with what the plain map and the second writing of the paper say.
 pub mod calls;
 mod hub;
+pub mod loads;
 mod page;
 pub mod saves;
 pub mod states;

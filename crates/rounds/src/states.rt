@@ -19,6 +19,19 @@ pub fn fault(found: &Image, left: &Image, map: &Lists, call: usize, said: usize)
     if fault > 0 {
         return fault;
     }
+    calls_fault(left, map)
+}
+
+// The fault of memory that is to hold what the map does, by the second writing, then by the index's own calls.
+pub fn map_fault(left: &Image, map: &Lists) -> usize {
+    let fault = comparisons::states::map_fault(left, map);
+    if fault > 0 {
+        return fault;
+    }
+    calls_fault(left, map)
+}
+
+fn calls_fault(left: &Image, map: &Lists) -> usize {
     let mut copy = *left;
     let listed = calls::make(&mut copy, LISTING, b"", 0);
     if comparisons::states::listing_agrees(&copy, map, listed) {

@@ -19,3 +19,5 @@ pub const LAYOUT: usize = 7;
 pub const SET_CHARGE: usize = 8;
 
 pub const SAVE: usize = 9;
+
+pub const LOAD: usize = 10;

@@ -14,9 +14,8 @@ use lib.Dec.{eqb}
 use lib.ListN.{getD, set}
 use borrow.Author.Tests.{eq-eqb, ne-eqb}
 use Rattle.types.specs.declared.Row.{Row}
-use Rattle.tables.specs.Words.{rootLink, firstFree, rowAt}
-use Rattle.words.specs.Rows.{putRow}
-use Rattle.sides.specs.Rows.{prefixed}
+use Rattle.tables.specs.Words.{rootLink, firstFree, slotStart, rowAt}
+use Rattle.words.proofs.OneWord.{put-place}
 use Rattle.slots.specs.declared.Free.{Free}
 use Rattle.slots.specs.declared.Free.the-variants.{Slot, None}
 use Rattle.slots.specs.Slots.{freeSlot, slotTaken, afterTaken, withRootPlace}
@@ -84,10 +83,9 @@ unfolding withRootPlace
 no-root-placed table place read none = let empty = eq-eqb (rootLink table) 0 (sym read ∙ none) in simp empty
 
 -- The root's place is stored.
-pub root-placed : (table after : List ℕ) (place : ℕ) {root : ℕ} {row new : Row} → root ≡ rootLink table → root ≢ 0
-    → row ≡ rowAt table root → new ≡ prefixed row place (row .side) → after ≡ putRow table root new
-    → after ≡ withRootPlace table place
+pub root-placed : (table after : List ℕ) (place base : ℕ) {root : ℕ} → root ≡ rootLink table → root ≢ 0
+    → base ≡ slotStart root → after ≡ set table (base + 2) place → after ≡ withRootPlace table place
 unfolding withRootPlace
-root-placed table after place read some of-row of-new stored =
+root-placed table after place base read some start stored =
     let full = ne-eqb (rootLink table) 0 (λ none. some (read ∙ none)) in
-    simp full (cc)
+    rw (full, stored, start, read) (sym (put-place table (rootLink table) place))

@@ -80,8 +80,7 @@ pub fn set_root_place(table: &mut [u16], place: u16)
 {
     let root = words::total::word(table, 0);
     if root != 0 {
-        let row = words::total::row_of(table, root);
-        words::total::put_row(table, root, sides::rows::prefixed(row, place, row.side));
+        words::total::set_word(table, words::total::row_start(root) + 2, place);
     }
 }
 
@@ -101,12 +100,9 @@ pub fn set_label(limits: Limits, store: &mut [u8], slot: u16, label: &[u8])
     requires { ⌜ LimitsFit limits ⌝ }
     ensures { λ _. ⌜ now (store .exit) ≡ withLabel limits (now (store .entry)) slot (now (label .entry)) ⌝ }
 {
-    let start = words::total::part_start(limits, slot);
-    let mut i = 0;
-    while i < label.len() {
-        set_byte(store, start, i, label[i]);
-        i += 1;
-    }
+    let start = words::total::clipped(words::total::part_start(limits, slot), store.len());
+    let n = words::total::clipped(label.len(), store.len() - start);
+    words::runs::put_bytes(store, start, &label[..n]);
 }
 
 // Stores zeros in a slot's whole part.

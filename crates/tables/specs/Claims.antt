@@ -97,6 +97,11 @@ callOutcome limits (plain.delete x) m = updateOutcome limits (plain.delete x) (m
 callOutcome limits (plain.set-charge x charge) m =
     updateOutcome limits (plain.set-charge x charge) (m .table) (m .store)
 
+-- what a list of calls leaves
+abbrev pub afterList : Limits → List Call → Memory → Memory
+afterList limits [] m = m
+afterList limits (c ∷ calls) m = afterList limits calls (callOutcome limits c m .memory)
+
 -- a call that makes a search: its label fits, and what it gives is a charge ("24 comes before its search", M-109 of
 -- document 02)
 pub record Searches (limits : Limits) (c : Call) : Type 0 where

@@ -1,4 +1,6 @@
-// The groups of saves of tables whose files are at an edge, each beside the number of bytes that its file is to have.
+// The groups of saves of tables whose files are at an edge, each beside the number of bytes that its file is to have,
+// and of loads of these files.
+use crate::loads;
 use crate::saves;
 use crate::sequences;
 use images::memory;
@@ -19,7 +21,7 @@ use samples::calls::INSERT;
 use samples::calls::SET_CHARGE;
 use samples::charges;
 
-// Makes the tables of each group, and prints a line for each; the hub's index alone has them.
+// Makes the tables of each group, and prints two lines for each; the hub's index alone has them.
 pub fn run(image: &mut Image, map: &mut Lists) {
     if memory::is_page(image) {
         return;
@@ -31,12 +33,19 @@ pub fn run(image: &mut Image, map: &mut Lists) {
 
 fn run_group(image: &mut Image, map: &mut Lists, group: usize) {
     let mut tally = tallies::none();
+    let mut loaded = tallies::none();
     let n = files::tables(group);
     for i in 0..n {
         let counted = table(image, map, files::table(group, i), tally);
         tally = counted;
+        loads::at_edge(image, map, &mut loaded);
     }
-    tallies::print_edge_saves(files::shape(group), group, tally);
+    print(files::shape(group), group, tally, loaded);
+}
+
+fn print(shape: usize, group: usize, saved: Tally, loaded: Tally) {
+    tallies::print_edge_saves(shape, group, saved);
+    tallies::print_edge_loads(shape, group, loaded);
 }
 
 // Makes a table, and saves it into an output of each length.

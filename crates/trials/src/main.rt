@@ -1,12 +1,15 @@
 // The executed tests: the index beside a plain ordered map and a second writing of the paper, over whole rosters, calls
-// from a fixed generator, saved files, damaged memory and memory of other lengths. One line is printed for each group,
-// and one for each call that does not agree: the expected output has none.
+// from a fixed generator, files saved and loaded, damaged memory and memory of other lengths. One line is printed for
+// each group, and one for each call that does not agree: the expected output has none.
+mod cuts;
 mod damage;
 mod edges;
 mod files;
 mod lent;
+mod loads;
 mod saves;
 mod sequences;
+mod written;
 
 use images::memory;
 use images::memory::Image;
@@ -29,7 +32,15 @@ fn run_index(sizes: Sizes) {
     lent::run(&image);
     edges::run(&image);
     saves::run_lent(&image);
+    written::run_lent(&image);
     files::run(&mut image, &mut map);
+    run_files(&image);
+}
+
+// The groups of files that no table was saved as.
+fn run_files(image: &Image) {
+    cuts::run(image);
+    written::run(image);
 }
 
 fn run(image: &mut Image, map: &mut Lists) {

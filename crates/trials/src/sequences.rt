@@ -1,4 +1,5 @@
-// The groups of calls on sound tables, made and counted, and of the hub's with saves among them.
+// The groups of calls on sound tables, made and counted, and of the hub's with saves and loads among them.
+use crate::loads;
 use crate::saves;
 use images::memory;
 use images::memory::Image;
@@ -19,10 +20,12 @@ use samples::shapes;
 pub fn run(image: &mut Image, map: &mut Lists, plan: Plan) {
     empty(image, map);
     let mut saved = tallies::none();
-    let tally = made(image, map, plan, &mut saved);
+    let mut loaded = tallies::none();
+    let tally = made(image, map, plan, &mut saved, &mut loaded);
     tallies::print_sequence(memory::is_page(image), plan.shape, plan.way, tally);
     if !memory::is_page(image) {
         tallies::print_saves(plan.shape, plan.way, saved);
+        tallies::print_loads(plan.shape, plan.way, loaded);
     }
 }
 
@@ -36,7 +39,13 @@ pub fn empty(image: &mut Image, map: &mut Lists) {
     );
 }
 
-fn made(image: &mut Image, map: &mut Lists, plan: Plan, saved: &mut Tally) -> Tally {
+fn made(
+    image: &mut Image,
+    map: &mut Lists,
+    plan: Plan,
+    saved: &mut Tally,
+    loaded: &mut Tally,
+) -> Tally {
     let mut tally = tallies::none();
     let mut seed = numbers::SEED;
     let n = groups::calls(plan);
@@ -45,9 +54,15 @@ fn made(image: &mut Image, map: &mut Lists, plan: Plan, saved: &mut Tally) -> Ta
         let counted = call(image, map, groups::call(plan, i, seed), tally);
         tally = counted;
         seed = numbers::next(seed);
-        saves::after(image, map, i, saved);
+        after(image, map, i, saved, loaded);
     }
     tally
+}
+
+// What follows call `i`: a save, and a load of one.
+fn after(image: &Image, map: &Lists, i: usize, saved: &mut Tally, loaded: &mut Tally) {
+    saves::after(image, map, i, saved);
+    loads::after(image, map, i, loaded);
 }
 
 fn call(image: &mut Image, map: &mut Lists, planned: Planned, tally: Tally) -> Tally {

@@ -9,17 +9,16 @@ use types::Row;
 ghost use mathlib.Core.Path.{_≡_};
 ghost use Rattle.turns.specs.Turns.{Yields, withSon, turnOnce, putTwice, turnTwice, turn, lean, grow, shrink};
 
-// Gives c a new near son.
+// Gives c a new near son: one link of its row is stored.
 pub fn with_son(table: &mut [u16], flip: bool, c: u16, son: u16)
     ensures { λ _. ⌜ now (table .exit) ≡ withSon flip (now (table .entry)) c son ⌝ }
 {
-    let row = rows::row_on(table, flip, c);
-    rows::put_on(
-        table,
-        flip,
-        c,
-        rows::linked_row(row, son, row.right, row.balance),
-    );
+    let base = words::total::row_start(c);
+    if flip {
+        words::total::set_word(table, base + 1, son);
+    } else {
+        words::total::set_word(table, base, son);
+    }
 }
 
 // One rotation: the near son rises over c. Where that son was even, the subtree stays as tall.

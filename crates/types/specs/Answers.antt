@@ -1,8 +1,9 @@
 -- What a call answers, in the numbers of document 01 ('Updates' and 'Where each call turns away').
 use Prim.Native.Nat.{ℕ}
 use Rattle.types.specs.declared.Refusal.{Refusal}
-use Rattle.types.specs.declared.Refusal.the-variants.{WrongTable, WrongStore, EmptyLabel, LongLabel, WrongCharge}
-use Rattle.types.specs.declared.Refusal.the-variants.{WrongSlot, BrokenWalk, NotSound, AlreadyHeld, NotHeld, Full}
+use Rattle.types.specs.declared.Refusal.the-variants.{WrongTable, WrongStore, BrokenFile, NotAscending}
+use Rattle.types.specs.declared.Refusal.the-variants.{BytesAfter, EmptyLabel, LongLabel, WrongCharge, WrongSlot}
+use Rattle.types.specs.declared.Refusal.the-variants.{BrokenWalk, NotSound, AlreadyHeld, NotHeld, Full}
 use Rattle.types.specs.declared.Refusal.the-variants.{ShortList, ShortOutput}
 use Rattle.types.specs.declared.SearchAnswer as search
 use Rattle.types.specs.declared.UpdateAnswer as update
@@ -22,7 +23,8 @@ pub data Answer : Type 0 where
   refused : (number : ℕ) → Answer
 
 -- the column 'No.' of the table of refusals; M-105's "17, output shorter than the file"; M-109's "24, a charge neither
--- 0 to 100 nor 255"
+-- 0 to 100 nor 255"; M-110's "18, a number that is cut short, has needless groups or is outside its limit, or a label
+-- that is cut short", "19, a label not above the one before it" and "20, bytes after the last label"
 abbrev pub refusalNumber : Refusal → ℕ
 refusalNumber WrongTable = 1
 refusalNumber WrongStore = 2
@@ -36,6 +38,9 @@ refusalNumber Full = 9
 refusalNumber ShortList = 10
 refusalNumber WrongSlot = 11
 refusalNumber ShortOutput = 17
+refusalNumber BrokenFile = 18
+refusalNumber NotAscending = 19
+refusalNumber BytesAfter = 20
 refusalNumber WrongCharge = 24
 
 abbrev pub searchSays : search.SearchAnswer → Answer

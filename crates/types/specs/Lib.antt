@@ -1,3 +1,4 @@
 pub mod Sizes
 pub mod Answers
 pub mod SaveReplies
+pub mod LoadReplies

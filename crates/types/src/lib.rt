@@ -26,6 +26,9 @@ pub struct Row {
 pub enum Refusal {
     WrongTable,
     WrongStore,
+    BrokenFile,
+    NotAscending,
+    BytesAfter,
     EmptyLabel,
     LongLabel,
     WrongCharge,
@@ -56,6 +59,9 @@ pub fn number_of(refusal: Refusal) -> usize
         Refusal::ShortList => 10,
         Refusal::WrongSlot => 11,
         Refusal::ShortOutput => 17,
+        Refusal::BrokenFile => 18,
+        Refusal::NotAscending => 19,
+        Refusal::BytesAfter => 20,
         Refusal::WrongCharge => 24,
     }
 }
@@ -102,6 +108,12 @@ pub enum ListAnswer {
 // What a save says: how many bytes it wrote.
 pub enum SaveAnswer {
     Saved(usize),
+    Refused(Refusal),
+}
+
+// What a load says: how many labels it loaded.
+pub enum LoadAnswer {
+    Loaded(usize),
     Refused(Refusal),
 }
 

@@ -62,7 +62,8 @@ drop-clipped (a ∷ l) zero k least = let none : k ≡ 0 = omega arith in rw non
 drop-clipped (a ∷ l) (suc n) zero least = absurd (omega arith)
 drop-clipped (a ∷ l) (suc n) (suc k) least = drop-clipped l n k (omega arith)
 
-take-clipped : (l : List ℕ) (n k : ℕ) → k ≡ min n (length l) → take k l ≡ take n l
+-- A list taken as far as it goes.
+pub take-clipped : (l : List ℕ) (n k : ℕ) → k ≡ min n (length l) → take k l ≡ take n l
 take-clipped [] n k least = take-nil k ∙ sym (take-nil n)
 take-clipped (a ∷ l) zero k least = let none : k ≡ 0 = omega arith in rw none
 take-clipped (a ∷ l) (suc n) zero least = absurd (omega arith)

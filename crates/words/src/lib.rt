@@ -2,6 +2,7 @@
 // store. Slots are counted from 1.
 pub mod charge;
 pub mod parts;
+pub mod runs;
 pub mod total;
 
 use types::Row;

@@ -82,7 +82,7 @@ pub fn part_start(limits: Limits, slot: u16) -> usize
 }
 
 // The smaller of an index and a length.
-fn clipped(at: usize, len: usize) -> usize
+pub fn clipped(at: usize, len: usize) -> usize
     ensures { λ r. ⌜ r ≡ min at len ⌝ }
 {
     if at < len { at } else { len }

@@ -7,14 +7,14 @@ use Rattle.slots.proofs.set_root_place.Tie as tie
 word-requires : tie.Need-word-requires
 word-requires c κs = search needs
 
-row-of-requires : tie.Need-row-of-requires
-row-of-requires c κs = search needs
+row-start-requires : tie.Need-row-start-requires
+row-start-requires c κs = search needs
 
-prefixed-requires : tie.Need-prefixed-requires
-prefixed-requires c κs = search needs
+add-set-word : tie.Need-add-set-word
+add-set-word c = search needs
 
-put-row-requires : tie.Need-put-row-requires
-put-row-requires c κs = search needs
+set-word-requires : tie.Need-set-word-requires
+set-word-requires c κs = search needs
 
 same-length : tie.Need-same-length
 same-length c = search needs
@@ -33,9 +33,9 @@ set-root-place-spec =
     tie.close
     (tie.spec
     word-requires
-    row-of-requires
-    prefixed-requires
-    put-row-requires
+    row-start-requires
+    add-set-word
+    set-word-requires
     same-length
     returns
     same-length-2

@@ -5,7 +5,7 @@ use native.Mathlib.Omega.{arith}
 use lib.ListN.{length-set}
 use Rattle.files.specs.Groups.{groupsOf}
 use Rattle.files.proofs.GroupLaws.{groups-of-lower, groups-of-last, some-group}
-use Rattle.entries.proofs.Filling.{Left, left-all, left-less, left-none, left-room}
+use Rattle.words.proofs.Filling.{Left, left-all, left-less, left-none, left-room}
 use Rattle.entries.proofs.groups.put.Statement.{statement}
 use Rattle.entries.proofs.groups.put.Tie as tie
 

@@ -7,13 +7,16 @@ use Rattle.trials.proofs.files.run_group.Tie as tie
 use Rattle.trials.proofs.files.table.Reads as files-table-reads′
 
 abbrev Inv-loop : tie.InvT-loop
-Inv-loop image₀ map₀ group tally₀ n i₀ image map tally i = i ≤ n
+Inv-loop image₀ map₀ group tally₀ loaded₀ n i₀ image map tally loaded i = i ≤ n
 
 abbrev μ-loop : tie.MeasureT-loop
-μ-loop image₀ map₀ group tally₀ n i₀ image map tally i = n - i
+μ-loop image₀ map₀ group tally₀ loaded₀ n i₀ image map tally loaded i = n - i
 
 none-requires : tie.Need-none-requires Inv-loop μ-loop
 none-requires c κs = search needs
+
+none-requires-2 : tie.Need-none-requires-2 Inv-loop μ-loop
+none-requires-2 c κs = search needs
 
 tables-requires : tie.Need-tables-requires Inv-loop μ-loop
 tables-requires c κs = search needs
@@ -27,6 +30,9 @@ table-requires c κs = search needs
 table-requires-2 : tie.Need-table-requires-2 Inv-loop μ-loop
 table-requires-2 c κs = search needs
 
+at-edge-requires : tie.Need-at-edge-requires Inv-loop μ-loop
+at-edge-requires c κs = search needs
+
 add-i : tie.Need-add-i Inv-loop μ-loop
 add-i c = search needs
 
@@ -39,8 +45,8 @@ loop-again c = search needs
 shape-requires : tie.Need-shape-requires Inv-loop μ-loop
 shape-requires c κs = search needs
 
-print-edge-saves-requires : tie.Need-print-edge-saves-requires Inv-loop μ-loop
-print-edge-saves-requires c κs = search needs
+print-requires : tie.Need-print-requires Inv-loop μ-loop
+print-requires c κs = search needs
 
 returns : tie.Need-returns Inv-loop μ-loop
 returns c = search needs
@@ -52,13 +58,15 @@ run-group-spec =
     Inv-loop
     μ-loop
     none-requires
+    none-requires-2
     tables-requires
     loop-holds
     table-requires
     table-requires-2
+    at-edge-requires
     add-i
     loop-less
     loop-again
     shape-requires
-    print-edge-saves-requires
+    print-requires
     returns)

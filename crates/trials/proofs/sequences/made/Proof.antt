@@ -6,10 +6,10 @@ use Rattle.trials.proofs.sequences.made.Statement.{statement}
 use Rattle.trials.proofs.sequences.made.Tie as tie
 
 abbrev Inv-loop : tie.InvT-loop
-Inv-loop image₀ map₀ plan saved₀ tally₀ seed₀ n i₀ image map saved tally seed i = i₀ ≤ i
+Inv-loop image₀ map₀ plan saved₀ loaded₀ tally₀ seed₀ n i₀ image map saved loaded tally seed i = i₀ ≤ i
 
 abbrev μ-loop : tie.MeasureT-loop
-μ-loop image₀ map₀ plan saved₀ tally₀ seed₀ n i₀ image map saved tally seed i = n - i
+μ-loop image₀ map₀ plan saved₀ loaded₀ tally₀ seed₀ n i₀ image map saved loaded tally seed i = n - i
 
 none-requires : tie.Need-none-requires Inv-loop μ-loop
 none-requires c κs = search needs

@@ -1,28 +1,42 @@
--- `turns::rotate::with_son` meets its contract. The row read, linked anew and stored.
-use Rattle.turns.specs.Turns.{withSon}
+-- `turns::rotate::with_son` meets its contract: one law for each side.
+use Rattle.turns.proofs.SonStored.{left-stored, right-stored}
 use borrow.Author.Needs.{needs}
 use Rattle.turns.proofs.rotate.with_son.Statement.{statement}
 use Rattle.turns.proofs.rotate.with_son.Tie as tie
 
-row-on-requires : tie.Need-row-on-requires
-row-on-requires c κs = search needs
+row-start-requires : tie.Need-row-start-requires
+row-start-requires c κs = search needs
 
-linked-row-requires : tie.Need-linked-row-requires
-linked-row-requires c κs = search needs
+add-set-word : tie.Need-add-set-word
+add-set-word c = search needs
 
-put-on-requires : tie.Need-put-on-requires
-put-on-requires c κs = search needs
+set-word-requires : tie.Need-set-word-requires
+set-word-requires c κs = search needs
+
+set-word-requires-2 : tie.Need-set-word-requires-2
+set-word-requires-2 c κs = search needs
 
 same-length : tie.Need-same-length
 same-length c = search needs
 
 returns : tie.Need-returns
-unfolding withSon
-returns c =
-    let put = c .before .before in
-    let linked = put .before in
-    simp (linked .linked-row .ensures, linked .before .before .row-on .ensures) at (put .put-on .ensures)
+returns c = search right-stored
+
+same-length-2 : tie.Need-same-length-2
+same-length-2 c = search needs
+
+returns-2 : tie.Need-returns-2
+returns-2 c = search left-stored
 
 pub with-son-spec : {M : Type 1} → statement M
 with-son-spec =
-    tie.close (tie.spec row-on-requires linked-row-requires put-on-requires same-length returns)
+    tie.close
+    (tie.spec
+    row-start-requires
+    add-set-word
+    set-word-requires
+    set-word-requires-2
+    same-length
+    returns
+    same-length-2
+    returns-2)

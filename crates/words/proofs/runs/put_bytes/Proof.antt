@@ -1,13 +1,13 @@
--- `entries::put_bytes` meets its contract. The invariant: the bytes from the index on, from their position on, are what
--- is left to write. The measure is how many are left.
+-- `words::runs::put_bytes` meets its contract. The invariant: the bytes from the index on, from their position on, are
+-- what is left to write. The measure is how many are left.
 use Prim.Native.Nat.{_≤_, _-_, _+_}
 use mathlib.Core.Path.{_≡_}
 use native.Mathlib.Nat.{add-zero}
 use native.Mathlib.Omega.{arith}
 use lib.ListN.{length, drop, drop-of-length-le}
-use Rattle.entries.proofs.Filling.{Left, left-all, left-less, left-none, drop-one}
-use Rattle.entries.proofs.put_bytes.Statement.{statement}
-use Rattle.entries.proofs.put_bytes.Tie as tie
+use Rattle.words.proofs.Filling.{Left, left-all, left-less, left-none, drop-one}
+use Rattle.words.proofs.runs.put_bytes.Statement.{statement}
+use Rattle.words.proofs.runs.put_bytes.Tie as tie
 
 abbrev Inv-loop : tie.InvT-loop
 Inv-loop output₀ at bytes i₀ output i = (i ≤ length bytes) × Left bytes output₀ at (drop i bytes) output (at + i)

@@ -1,0 +1,4 @@
+pub mod NumberLaws
+pub mod OrderLaws
+pub mod EntryLaws
+pub mod ScanLaws
