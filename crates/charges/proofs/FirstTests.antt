@@ -1,5 +1,4 @@
 -- The tests before a charge is set.
--- `by-charge`, `by-table`, `by-none`: the lines past the label, in turn.
 -- `not-tested`, `tested`: where the charge is wrong, soundness is not tested.
 -- `early-unread`, `early-read`: what the lengths decide, and what is left to those lines past them.
 -- `refused-charge`: a refused call. `charge-ready`: past the tests the memory is sound, the label fits, the charge is
@@ -16,7 +15,7 @@ use Rattle.labels.specs.Labels.{Label}
 use Rattle.trees.specs.Charges.{isCharge}
 use Rattle.trees.specs.Plain as plain
 use Rattle.tables.specs.Sound.{sound}
-use Rattle.tables.specs.Outcomes.{Verdict, pass, refuse, line, ofMemory, ofLabel, ofCharge, ofTable, updateOutcome}
+use Rattle.tables.specs.Outcomes.{Verdict, pass, line, ofMemory, ofLabel, ofCharge, ofTable, updateOutcome}
 use Rattle.tables.specs.Outcomes.{chargeOutcome}
 use Rattle.tables.specs.Given.{Gives}
 use Rattle.lengths.specs.declared.Early.{Early}
@@ -26,20 +25,6 @@ use Rattle.lengths.proofs.FirstLines.{line-passed, sizes-passed, label-passed, 
 use Rattle.endings.specs.Ready.{EditsFit, Ready}
 use Rattle.endings.proofs.FirstTests.{refused-by}
 use Rattle.charges.specs.Verdicts.{chargeVerdict}
-
--- The lines past the label: 24 first,
-pub by-charge : (right sound : Bool) → right ≡ false → refuse 24 ≡ line (not right) 24 (line (not sound) 6 pass)
-by-charge right sound wrong = rw wrong
-
--- then 6,
-pub by-table : (right sound : Bool) → right ≡ true → sound ≡ false
-    → refuse 6 ≡ line (not right) 24 (line (not sound) 6 pass)
-by-table right sound one unsound = rw (one, unsound)
-
--- else none.
-pub by-none : (right sound : Bool) → right ≡ true → sound ≡ true
-    → pass ≡ line (not right) 24 (line (not sound) 6 pass)
-by-none right sound one so = rw (one, so)
 
 -- Where the charge is wrong, soundness is not tested,
 pub not-tested : (right sound : Bool) → right ≡ false → false ≡ (right && sound)

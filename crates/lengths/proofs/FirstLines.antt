@@ -2,6 +2,7 @@
 -- `no-pass`: a refusal is no pass. `line-passed`: where the lines pass, the first one's test failed.
 -- `Decides`: lines pass or refuse, whatever stands below them. `one-line`, `in-turn`, `memory-decides`: so do all.
 -- `lines-refused`, `lines-passed`: what was said of lines where nothing stands below them.
+-- `first-line`, `second-line`, `neither-line`: of two lines by what is not so, the first that applies.
 -- `memory-refused`, `memory-passed`: a refusal by a lent length is the call's; past it the lines below decide.
 -- `sizes-passed`, `sizes-fit`, `label-passed`: past them the table and the store have their sizes, and the label fits.
 -- `label-unread`, `label-empty`, `label-long`, `label-taken`: what is said where a label is tested besides.
@@ -68,6 +69,19 @@ module _ (lines : Verdict → Verdict) (decides : Decides lines) (early : Early)
       go : Decides lines → pass ≡ lines pass → lines below ≡ below
       go (passes p) same = p below
       go (refuses n p) same = no-pass n (same ∙ p pass)
+
+-- of two lines by what is not so, the first comes first,
+module _ (one two : Bool) (m n : ℕ) where
+  pub first-line : one ≡ false → refuse m ≡ line (not one) m (line (not two) n pass)
+  first-line not-one = rw not-one
+
+  -- then the second,
+  pub second-line : one ≡ true → two ≡ false → refuse n ≡ line (not one) m (line (not two) n pass)
+  second-line is-one not-two = rw (is-one, not-two)
+
+  -- else none
+  pub neither-line : one ≡ true → two ≡ true → pass ≡ line (not one) m (line (not two) n pass)
+  neither-line is-one is-two = rw (is-one, is-two)
 
 -- where the lines of a label pass, it fits
 pub label-passed : (limits : Limits) (x : Label) (below : Verdict) → pass ≡ ofLabel limits x below

@@ -1,7 +1,6 @@
 -- The entries of a file inserted one after the other.
 -- `Inserting`: what is left to insert leaves the whole. `inserting-begins`, `inserting-goes-on`: the entries in turn.
 -- `insert-fits`: an entry's label can be inserted. `inserting-stops`, `inserting-ends`: where the inserts end.
--- `table-kept`, `store-kept`: their lengths stay.
 use mathlib.Core.Bool.{Bool, true, false, cond}
 use mathlib.Core.List.{List}
 use mathlib.Core.Path.{_≡_, refl, sym, ap, _∙_}

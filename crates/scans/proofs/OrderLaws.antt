@@ -1,12 +1,10 @@
--- The order of two labels of a file, and the refusals of one.
+-- The order of two labels of a file.
 -- `whole-from-first`: labels compared from the first place on are compared whole.
 -- `above`, `not-above-same`, `not-above-larger`: whether one label is above another, by their comparison.
--- `by-entry`, `by-order`, `by-none`: the refusals of a label, in turn.
-use mathlib.Core.Bool.{Bool, true, false, not}
+use mathlib.Core.Bool.{true, false}
 use mathlib.Core.Path.{_≡_, refl, sym, ap, _∙_}
 use Rattle.labels.specs.Labels.{Label, compareLabels, compareFrom}
 use Rattle.trees.specs.Valid.{isSmaller}
-use Rattle.tables.specs.Outcomes.{pass, refuse, line}
 use Rattle.orders.specs.declared.Order.{Order}
 use Rattle.orders.specs.declared.Order.the-variants.{Smaller, Same, Larger}
 use Rattle.orders.specs.Orders.{comparisonBy}
@@ -33,17 +31,3 @@ module _ (x y : Label) (c : Compared) (says : comparisonOf c ≡ compareFrom 1 x
 
   pub not-above-larger : c .order ≡ Larger → false ≡ isSmaller (compareLabels x y)
   not-above-larger is = by-its-order Larger is
-
--- The refusals of a label: 18 first,
-pub by-entry : (whole above : Bool) → whole ≡ false → refuse 18 ≡ line (not whole) 18 (line (not above) 19 pass)
-by-entry whole above broken = rw broken
-
--- then 19,
-pub by-order : (whole above : Bool) → whole ≡ true → above ≡ false
-    → refuse 19 ≡ line (not whole) 18 (line (not above) 19 pass)
-by-order whole above one low = rw (one, low)
-
--- else none.
-pub by-none : (whole above : Bool) → whole ≡ true → above ≡ true
-    → pass ≡ line (not whole) 18 (line (not above) 19 pass)
-by-none whole above one so = rw (one, so)
