@@ -1,5 +1,7 @@
 // The call that sets a strap's charge, within any limits: the refusals, one search, and the store of one word.
 // A refused call has changed nothing.
+#![tactic(auto)]
+
 ghost use Rattle.std.specs.Prelude.{true, not, ◌&&◌, ◌≡◌};
 ghost use Rattle.types.specs.Answers.{update_says};
 ghost use Rattle.trees.specs.Charges.{is_charge};

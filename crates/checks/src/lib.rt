@@ -2,6 +2,8 @@
 // labels ascend, every node keeps the height rule and has its true balance, place and side, and the free chain holds
 // exactly the other slots up to the high mark.
 // It changes nothing, and ends at the first word, byte or node that is not as it must be.
+#![tactic(auto)]
+
 pub mod walks;
 
 ghost use Rattle.std.specs.Prelude.{◌≡◌};
@@ -12,7 +14,7 @@ use heights::Subtree;
 use types::Limits;
 
 // What the test of a node finds: it is not as it must be, or its links, its balance word and its difference places.
-#[derive(Drop)]
+#[derive(Clone, Copy)]
 pub enum Node {
     Wrong,
     Fine {

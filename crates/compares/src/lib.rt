@@ -1,6 +1,8 @@
 // The comparison of two labels from a place on, by the numbers that their bytes stand for: `compare` for a search,
 // which passes over bytes that are the same and reads no table, and `by_table` for an update. Neither reads a byte past
 // the place at which it ends; the crate `eights` has one that does. `at_place` gives the order at one place alone.
+#![tactic(auto)]
+
 ghost use Rattle.std.specs.Prelude.{◌≡◌, ◌+◌, ◌≤◌, min};
 ghost use Rattle.labels.specs.Labels.{compare_from};
 ghost use Rattle.compares.specs.Compares.{comparison_of, rest, order_at, HavePlaces};
@@ -9,7 +11,7 @@ ghost use Rattle.compares.specs.Compares.{StartsWithin, EndsWithin, EndsAt, Stay
 use orders::Order;
 
 // The order of two labels, and the place at which their comparison ended: the difference place or the shared end's.
-#[derive(Drop)]
+#[derive(Clone, Copy)]
 pub struct Compared {
     pub order: Order,
     pub place: usize,

@@ -1,1 +1,2 @@
 // The walks of the soundness test decide soundness: laws, no code.
+#![tactic(auto)]

@@ -1,9 +1,11 @@
 // The reader of a decimal value, 0 to 65535 without needless leading zeros.
+#![tactic(auto)]
+
 ghost use Rattle.std.specs.Prelude.{◌≡◌, ◌≤◌, length, drop};
 ghost use Rattle.decimals.specs.Values.{value_says, value_of, value_after};
 
 // The value that bytes write, where they write one.
-#[derive(Drop)]
+#[derive(Clone, Copy)]
 pub enum Value {
     Of(u16),
     Missing,

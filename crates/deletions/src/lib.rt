@@ -1,5 +1,7 @@
 // Delete in the words and bytes, where a search of a sound table found the label: prefix fields renewed, the node taken
 // out and the tree put in balance, the slot freed, the label cleared.
+#![tactic(auto)]
+
 ghost use Rattle.std.specs.Prelude.{◌≡◌, ◌-◌};
 ghost use Rattle.paths.specs.Paths.{delete_along, rooted};
 ghost use Rattle.fields.specs.Fits.{RowsFit};

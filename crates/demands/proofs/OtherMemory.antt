@@ -14,7 +14,7 @@ use Rattle.tables.specs.Outcomes.{listing_outcome, layout_outcome, update_outcom
 use Rattle.tables.specs.Outcomes.{charge_outcome}
 use Rattle.files.specs.Saves.{save_outcome}
 use Rattle.files.specs.Loads.{load_outcome}
-use Rattle.csv.specs.Rosters.{roster_outcome}
+use Rattle.rfc4180.specs.Rosters.{roster_outcome}
 use Rattle.demands.specs.OtherMemory.{AllRefused}
 
 module _ (limits : Limits) (table store : List ℕ) (other : length table ≡ table_length limits → ⊥) where

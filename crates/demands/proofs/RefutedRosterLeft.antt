@@ -20,9 +20,9 @@ use Rattle.tables.specs.Sound.{words_and_bytes, counted, sound_as, sound, state_
 use Rattle.tables.specs.Outcomes.{layout_outcome, update_outcome, insert_outcome}
 use Rattle.tables.specs.Claims.{after_list}
 use Rattle.tables.specs.MapClaims.{map_in}
-use Rattle.csv.specs.Records.{bare_field, quoted_field, take_field, take_fields_with, take_fields, take_record, records_with}
-use Rattle.csv.specs.Records.{records_of}
-use Rattle.csv.specs.Rosters.{RosterOutcome, roster_from, roster_outcome}
+use Rattle.rfc4180.specs.Records.{bare_field, quoted_field, take_field, take_fields_with, take_fields, take_record, records_with}
+use Rattle.rfc4180.specs.Records.{records_of}
+use Rattle.rfc4180.specs.Rosters.{RosterOutcome, roster_from, roster_outcome}
 use Rattle.cases.specs.Cases.{c}
 use Rattle.demands.specs.Rosters.{inserts_to, entered_by}
 use Rattle.demands.specs.RosterTrials.{RosterVersion, MeetsRoster}

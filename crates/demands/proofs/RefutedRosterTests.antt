@@ -18,8 +18,8 @@ use Rattle.tables.specs.Written.{lent}
 use Rattle.tables.specs.Steps.{is_bad}
 use Rattle.tables.specs.Sound.{words_and_bytes, counted, sound_as, sound}
 use Rattle.tables.specs.Outcomes.{pass, line, of_memory, layout_outcome}
-use Rattle.csv.specs.Records.{bare_field, take_field, take_fields_with, take_fields, take_record, records_with, records_of}
-use Rattle.csv.specs.Rosters.{longest_text, RosterOutcome, roster_from, of_text, roster_outcome}
+use Rattle.rfc4180.specs.Records.{bare_field, take_field, take_fields_with, take_fields, take_record, records_with, records_of}
+use Rattle.rfc4180.specs.Rosters.{longest_text, RosterOutcome, roster_from, of_text, roster_outcome}
 use Rattle.demands.specs.Loads.{Lent}
 use Rattle.demands.specs.RosterTrials.{RosterVersion, MeetsRoster, AnswersUnsound, lone_text, TakesLonger}
 use Rattle.demands.specs.RosterTrials.{RefusesLongest}

@@ -21,9 +21,9 @@ use Rattle.tables.specs.Steps.{is_bad, search_steps}
 use Rattle.tables.specs.Sound.{words_and_bytes, counted, sound_as, sound, state_of}
 use Rattle.tables.specs.Outcomes.{layout_outcome, update_outcome, insert_outcome}
 use Rattle.tables.specs.Claims.{Sound}
-use Rattle.csv.specs.Records.{bare_field, quoted_field, take_field, take_fields_with, take_fields, take_record, records_with}
-use Rattle.csv.specs.Records.{records_of}
-use Rattle.csv.specs.Rosters.{RosterOutcome, roster_from, roster_outcome}
+use Rattle.rfc4180.specs.Records.{bare_field, quoted_field, take_field, take_fields_with, take_fields, take_record, records_with}
+use Rattle.rfc4180.specs.Records.{records_of}
+use Rattle.rfc4180.specs.Rosters.{RosterOutcome, roster_from, roster_outcome}
 use Rattle.cases.specs.Cases.{a}
 use Rattle.demands.specs.RosterTrials.{RosterVersion, MeetsRoster, RostersAnswer, RostersRefused, AnswersText}
 use Rattle.demands.specs.RosterTrials.{one_text, bare_text, nameless_text, respelled_text, lone_text, headed_text}

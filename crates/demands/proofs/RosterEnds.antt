@@ -16,8 +16,8 @@ use Rattle.labels.proofs.Numbers.{Ltb, lt_yes, lt_no, ltb_view}
 use Rattle.tables.specs.Written.{Memory}
 use Rattle.tables.specs.Outcomes.{Verdict, pass, refuse, line, of_memory}
 use Rattle.tables.specs.Claims.{after_list}
-use Rattle.csv.specs.Records.{records_with, records_of}
-use Rattle.csv.specs.Rosters.{longest_text, RosterOutcome, stopped_at, roster_from, roster_by, of_text, roster_outcome}
+use Rattle.rfc4180.specs.Records.{records_with, records_of}
+use Rattle.rfc4180.specs.Rosters.{longest_text, RosterOutcome, stopped_at, roster_from, roster_by, of_text, roster_outcome}
 use Rattle.demands.specs.Loads.{Lent, AllAccepted}
 use Rattle.demands.specs.Rosters.{roster_of, inserts_to}
 use Rattle.demands.proofs.Outcomes.{memory_passes}

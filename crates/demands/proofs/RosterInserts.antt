@@ -14,7 +14,7 @@ use Rattle.tables.specs.Outcomes.{insert_outcome}
 use Rattle.tables.specs.Claims.{call_outcome, after_list}
 use Rattle.tables.specs.MapClaims.{Said, said, accepted, refused_by}
 use Rattle.files.specs.FileReads.{EntryRead, no_entry_lem, entry}
-use Rattle.csv.specs.Rosters.{RosterOutcome, stopped_at, roster_from}
+use Rattle.rfc4180.specs.Rosters.{RosterOutcome, stopped_at, roster_from}
 use Rattle.demands.specs.Loads.{AllAccepted}
 use Rattle.demands.specs.Rosters.{inserts_to, FirstRefused}
 

@@ -17,9 +17,9 @@ use Rattle.tables.specs.Written.{Memory}
 use Rattle.tables.specs.Outcomes.{refuse, insert_outcome, layout_outcome}
 use Rattle.tables.specs.Claims.{after_list}
 use Rattle.tables.specs.MapClaims.{said, refused_by}
-use Rattle.csv.specs.Records.{records_of}
-use Rattle.csv.specs.Rosters.{longest_text}
-use Rattle.csv.proofs.RecordLaws.{records_within}
+use Rattle.rfc4180.specs.Records.{records_of}
+use Rattle.rfc4180.specs.Rosters.{longest_text}
+use Rattle.rfc4180.proofs.RecordLaws.{records_within}
 use Rattle.demands.specs.Rosters.{roster_of, inserts_to, Entered, FirstRefused, entered_by, named_by, TakesRosters}
 use Rattle.demands.proofs.CostRule.{cost_rule}
 use Rattle.demands.proofs.SoundAfter.{sound_stays}

@@ -11,7 +11,7 @@ use Rattle.tables.specs.Outcomes.{Outcome, Listing, layout_outcome, search_outco
 use Rattle.tables.specs.Outcomes.{charge_outcome, check_outcome, listing_outcome, view_outcome, view_part}
 use Rattle.files.specs.Saves.{save_outcome}
 use Rattle.files.specs.Loads.{load_outcome}
-use Rattle.csv.specs.Rosters.{stopped_at, roster_outcome}
+use Rattle.rfc4180.specs.Rosters.{stopped_at, roster_outcome}
 
 -- refused by 1, with all lent memory as it was
 abbrev pub wrong_table : (table store : List ℕ) → Outcome

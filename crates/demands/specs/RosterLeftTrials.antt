@@ -9,9 +9,9 @@ use Rattle.tables.specs.Words.{labels_held}
 use Rattle.tables.specs.Written.{Memory, lent}
 use Rattle.tables.specs.Claims.{Sound, after_list}
 use Rattle.tables.specs.MapClaims.{map_in}
-use Rattle.csv.specs.Grammar.{comma, cr, lf, dquote}
-use Rattle.csv.specs.Records.{records_of}
-use Rattle.csv.specs.Rosters.{RosterOutcome}
+use Rattle.rfc4180.specs.Grammar.{comma, cr, lf, dquote}
+use Rattle.rfc4180.specs.Records.{records_of}
+use Rattle.rfc4180.specs.Rosters.{RosterOutcome}
 use Rattle.cases.specs.Cases.{a, b, c}
 use Rattle.demands.specs.Rosters.{inserts_to, entered_by}
 use Rattle.demands.specs.RosterTrials.{RosterVersion, one_text}

@@ -7,8 +7,8 @@ use Rattle.tables.specs.Words.{labels_held}
 use Rattle.tables.specs.Written.{lent}
 use Rattle.tables.specs.Sound.{sound}
 use Rattle.tables.specs.Claims.{Sound}
-use Rattle.csv.specs.Grammar.{comma, cr, lf}
-use Rattle.csv.specs.Rosters.{longest_text, RosterOutcome, roster_outcome}
+use Rattle.rfc4180.specs.Grammar.{comma, cr, lf}
+use Rattle.rfc4180.specs.Rosters.{longest_text, RosterOutcome, roster_outcome}
 use Rattle.cases.specs.Cases.{a, b}
 use Rattle.demands.specs.Loads.{Lent}
 

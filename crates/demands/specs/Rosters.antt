@@ -10,8 +10,8 @@ use Rattle.tables.specs.Outcomes.{pass, refuse, of_memory, insert_outcome, layou
 use Rattle.tables.specs.Claims.{Sound, after_list, CallsAgree}
 use Rattle.tables.specs.MapClaims.{said, refused_by}
 use Rattle.files.specs.FileReads.{EntryRead, no_entry_lem, entry}
-use Rattle.csv.specs.Records.{records_of}
-use Rattle.csv.specs.Rosters.{longest_text, RosterOutcome, stopped_at, of_text, roster_outcome}
+use Rattle.rfc4180.specs.Records.{records_of}
+use Rattle.rfc4180.specs.Rosters.{longest_text, RosterOutcome, stopped_at, of_text, roster_outcome}
 use Rattle.demands.specs.Loads.{Lent, AllAccepted}
 
 -- what taking a roster into a memory gives and leaves

@@ -1,5 +1,7 @@
 // The comparison of two labels where it may read bytes freely, and their order at one place: eight bytes that are the
 // same are passed over at once, and the first eight that are not are settled place by place.
+#![tactic(auto)]
+
 ghost use Rattle.std.specs.Prelude.{◌≡◌, ◌+◌, ◌*◌, ◌≤◌, ◌<◌, max, leb, length, take, drop};
 ghost use Rattle.labels.specs.Labels.{compare_labels, compare_from, difference_place};
 ghost use Rattle.compares.specs.Compares.{comparison_of, rest, order_at, HavePlaces, StartsWithin, EndsWithin};

@@ -1,4 +1,6 @@
 // An entry of a saved file: a label's length, its bytes and its value, written into a lent output from a position on.
+#![tactic(auto)]
+
 pub mod groups;
 
 ghost use Rattle.std.specs.Prelude.{◌≡◌, ◌^◌, ◌<◌, length};

@@ -26,7 +26,7 @@ use Rattle.lists.specs.Given.{Lists}
 use Rattle.words.specs.Limits.{LimitsFit}
 use Rattle.files.specs.Saves.{Saving, Saves}
 use Rattle.files.specs.Loads.{Loading, Loads}
-use Rattle.csv.specs.Rosters.{RosterOutcome, TakesRoster}
+use Rattle.rfc4180.specs.Rosters.{RosterOutcome, TakesRoster}
 use Rattle.packs.specs.Packed.{packed, packed_save, packed_load, packed_roster, packed_part}
 use Rattle.exported.specs.Given.{viewed_by, packed_view, Packs, PacksList, PacksSave, PacksLoad, PacksRoster}
 use Rattle.labels.proofs.Clashes.{clash}

@@ -7,7 +7,7 @@ use Rattle.tables.specs.Outcomes.{Outcome, Listing, Verdict, pass, refuse, view_
 use Rattle.views.specs.Parts.{view_start}
 use Rattle.files.specs.Saves.{Saving}
 use Rattle.files.specs.Loads.{Loading}
-use Rattle.csv.specs.Rosters.{RosterOutcome}
+use Rattle.rfc4180.specs.Rosters.{RosterOutcome}
 use Rattle.packs.specs.Packed.{packed, packed_save, packed_load, packed_roster, packed_part}
 
 -- a call that may change the table and the store: the number that it is to give, and the memory that it is to leave

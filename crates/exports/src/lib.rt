@@ -3,6 +3,8 @@
 // content is taken, and each call answers as the index does. A caller in another language owes what the language asks
 // of every caller here: each pointer reaches as many words or bytes as its length says, the lent parts do not overlap,
 // and they live, unchanged by others, through the call.
+#![tactic(auto)]
+
 ghost use Rattle.std.specs.Prelude.{◌≡◌};
 ghost use Rattle.types.specs.Sizes.{hub};
 ghost use Rattle.tables.specs.Outcomes.{layout_outcome, search_outcome, insert_outcome, delete_outcome, check_outcome};
@@ -10,7 +12,7 @@ ghost use Rattle.tables.specs.Outcomes.{charge_outcome, listing_outcome, view_ou
 ghost use Rattle.packs.specs.Packed.{packed};
 ghost use Rattle.files.specs.Saves.{save_outcome};
 ghost use Rattle.files.specs.Loads.{load_outcome};
-ghost use Rattle.csv.specs.Rosters.{roster_outcome};
+ghost use Rattle.rfc4180.specs.Rosters.{roster_outcome};
 ghost use Rattle.exported.specs.Given.{packed_view, Packs, PacksList, PacksSave, PacksLoad, PacksRoster};
 
 use types::DoneAnswer;

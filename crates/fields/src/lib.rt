@@ -1,4 +1,6 @@
 // The label in a slot, and the prefix fields of a node between two others, by their labels.
+#![tactic(auto)]
+
 ghost use Rattle.std.specs.Prelude.{◌≡◌, ◌≤◌, max, length};
 ghost use Rattle.labels.specs.Labels.{difference_place};
 ghost use Rattle.labels.specs.Neighbours.{held, difference};
@@ -11,7 +13,7 @@ ghost use Rattle.fields.specs.Between.{fields_between};
 use types::Limits;
 
 // The prefix fields of a node between its neighbours.
-#[derive(Drop)]
+#[derive(Clone, Copy)]
 pub struct Fields {
     pub place: u16,
     pub side: u16,

@@ -1,1 +1,2 @@
 // The saved file of a table's labels: definitions and laws, no code.
+#![tactic(auto)]

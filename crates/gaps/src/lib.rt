@@ -1,4 +1,6 @@
 // How a label lies in a window, between the labels in two slots: whether all ascend, and part by its place and side.
+#![tactic(auto)]
+
 ghost use Rattle.std.specs.Prelude.{◌≡◌, true, ◌≤◌};
 ghost use Rattle.gaps.specs.Windows.{toward, is_toward, Beside, MayTie, Between};
 ghost use Rattle.gaps.specs.Gapped.{gap_in, parts_at, gaps_in, fields_fine, alone, by_upper, by_lower};
@@ -7,7 +9,7 @@ use orders::Order;
 use types::Limits;
 
 // How a label lies between its neighbours: not as it should, or its difference places with both.
-#[derive(Drop)]
+#[derive(Clone, Copy)]
 pub enum Gaps {
     Broken,
     Both { lower: usize, upper: usize },

@@ -1,10 +1,12 @@
 // A node over its two sons, in the soundness test: the height rule, the true balance, and how many nodes there are.
+#![tactic(auto)]
+
 ghost use Rattle.std.specs.Prelude.{◌≡◌, max};
 ghost use Rattle.heights.specs.Over.{over};
 ghost use Rattle.heights.specs.Fits.{SumsFit, SonsFit};
 
 // What the test of a subtree finds: it is not sound, or its height and the number of its nodes.
-#[derive(Drop)]
+#[derive(Clone, Copy)]
 pub enum Subtree {
     Unsound,
     Sound { height: usize, count: usize },

@@ -1,4 +1,6 @@
 // `hubshell` on further inputs, each a file and each on a fresh table.
+#![tactic(auto)]
+
 use libc::STDOUT_FILENO;
 
 fn main() {

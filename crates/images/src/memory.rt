@@ -14,7 +14,7 @@ pub type List = [u16; 513];
 pub type Bytes = [u8; 32769];
 
 // How many words of the table, bytes of the store and words of the list are lent, and whether to the page's index.
-#[derive(Drop)]
+#[derive(Clone, Copy)]
 pub struct Lent {
     pub words: usize,
     pub bytes: usize,

@@ -1,5 +1,5 @@
 // The sizes of an index: slots, bytes of a label, nodes on a path.
-#[derive(Drop)]
+#[derive(Clone, Copy)]
 pub struct Sizes {
     pub slots: usize,
     pub width: usize,

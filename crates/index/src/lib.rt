@@ -1,6 +1,8 @@
 // The label index of the hub, and in `page` that of the pairing page: every call takes the lent memory at any length
 // and with any content, and refuses by the paper's numbers. A refused call has changed nothing; a refused roster keeps
 // the records before the one that is refused.
+#![tactic(auto)]
+
 pub mod page;
 
 ghost use Rattle.std.specs.Prelude.{◌≡◌};
@@ -16,7 +18,7 @@ ghost use Rattle.views.specs.Parts.{Views};
 ghost use Rattle.lists.specs.Given.{Lists};
 ghost use Rattle.files.specs.Saves.{save_outcome, Saves};
 ghost use Rattle.files.specs.Loads.{load_outcome, Loads};
-ghost use Rattle.csv.specs.Rosters.{roster_outcome, TakesRoster};
+ghost use Rattle.rfc4180.specs.Rosters.{roster_outcome, TakesRoster};
 
 use types::{
     DoneAnswer, ListAnswer, LoadAnswer, RosterAnswer, SaveAnswer, SearchAnswer, UpdateAnswer,

@@ -1,1 +1,2 @@
 // What `hubshell` prints for an input: definitions and their laws, no code.
+#![tactic(auto)]

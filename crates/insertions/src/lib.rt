@@ -1,5 +1,7 @@
 // Insert in the words and bytes, where a search of a sound table ended at an empty link: a slot taken, the leaf and its
 // label stored, the tree put in balance.
+#![tactic(auto)]
+
 ghost use Rattle.std.specs.Prelude.{◌≡◌, ◌+◌, ◌≤◌, length};
 ghost use Rattle.tables.specs.Words.{labels_held};
 ghost use Rattle.words.specs.Rows.{put_row};

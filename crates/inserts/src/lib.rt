@@ -1,5 +1,7 @@
 // Insert within any limits: the refusals, one search, and the update of words and bytes.
 // A refused call has changed nothing.
+#![tactic(auto)]
+
 ghost use Rattle.types.specs.Answers.{update_says};
 ghost use Rattle.tables.specs.Outcomes.{insert_outcome};
 ghost use Rattle.tables.specs.Given.{Gives};

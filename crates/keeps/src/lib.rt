@@ -1,4 +1,6 @@
 // The line of an input that has begun, kept while its bytes come.
+#![tactic(auto)]
+
 ghost use Rattle.std.specs.Prelude.{◌≡◌, [], min, length};
 ghost use Rattle.inputs.specs.Reads.{kept};
 ghost use Rattle.keeps.specs.Held.{line_of, Held};
@@ -7,7 +9,7 @@ ghost use Rattle.keeps.specs.Held.{line_of, Held};
 pub const ROOM: usize = 81;
 
 // What is kept of the line: its first bytes.
-#[derive(Drop)]
+#[derive(Clone, Copy)]
 pub struct Line {
     pub bytes: [u8; ROOM],
     pub len: usize,

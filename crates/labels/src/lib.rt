@@ -1,1 +1,2 @@
 // The order of labels: definitions and their laws, no code.
+#![tactic(auto)]

@@ -1,4 +1,6 @@
 // Layout: every word and byte is set to 0.
+#![tactic(auto)]
+
 ghost use Rattle.std.specs.Prelude.{◌≡◌, length, replicate};
 ghost use Rattle.types.specs.Answers.{done_says};
 ghost use Rattle.tables.specs.Outcomes.{layout_outcome};

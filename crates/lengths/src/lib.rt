@@ -1,5 +1,7 @@
 // Refusals by lengths, in the order of the table of refusals: of the lent memory for all calls, of the label for those
 // that are given one.
+#![tactic(auto)]
+
 ghost use Rattle.std.specs.Prelude.{◌≡◌};
 ghost use Rattle.tables.specs.Outcomes.{pass, of_memory, of_length, of_label};
 ghost use Rattle.words.specs.Limits.{LimitsFit};
@@ -8,7 +10,7 @@ ghost use Rattle.lengths.specs.Early.{early_says};
 use types::{Limits, Refusal};
 
 // What the first tests of a call say: none refuses it, or the first that does.
-#[derive(Drop)]
+#[derive(Clone, Copy)]
 pub enum Early {
     Pass,
     Refused(Refusal),

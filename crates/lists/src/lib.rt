@@ -1,4 +1,6 @@
 // The ascending listing of a sound table: it writes the slots of the tree from left to right into a lent list of words.
+#![tactic(auto)]
+
 ghost use Rattle.types.specs.Answers.{list_says};
 ghost use Rattle.tables.specs.Outcomes.{listing_outcome};
 ghost use Rattle.words.specs.Limits.{LimitsFit};

@@ -1,5 +1,7 @@
 // The load of a saved file within any limits. The whole file is read first; where it can be loaded, the table and its
 // store are cleared, and its labels are inserted in file order. A refused load has changed nothing.
+#![tactic(auto)]
+
 ghost use Rattle.std.specs.Prelude.{drop};
 ghost use Rattle.types.specs.LoadReplies.{load_says};
 ghost use Rattle.tables.specs.Written.{lent};

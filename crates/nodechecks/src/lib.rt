@@ -1,5 +1,7 @@
 // The test of one node: its words and bytes, its order between its neighbours, its place and side;
 // and that of a freed slot.
+#![tactic(auto)]
+
 ghost use Rattle.std.specs.Prelude.{◌≡◌, ◌≤◌, drop};
 ghost use Rattle.trees.specs.Charges.{is_charge};
 ghost use Rattle.tables.specs.Words.{part_at};

@@ -1,6 +1,8 @@
 // The step at one node, in parts: whether there is a node to visit, where its place and side send the walk, the
 // comparison with its label, and where the walk stands after it, with the nearest nodes that it went past. The search
 // and the search of an update are made of these parts. Only `halts` and `son_at` read the table: all else takes a row.
+#![tactic(auto)]
+
 pub mod turning;
 
 ghost use Rattle.std.specs.Prelude.{◌≡◌, ◌≤◌};
@@ -21,7 +23,7 @@ use types::{Limits, Row};
 // Where the search of an update stands: the next link, the numbers P and S of the search steps, the slots of the last
 // nodes where it went right and left, which are the nearest smaller and the nearest larger one, 0 for none, and the
 // counts so far.
-#[derive(Drop)]
+#[derive(Clone, Copy)]
 pub struct Spot {
     pub link: usize,
     pub p: usize,
@@ -33,7 +35,7 @@ pub struct Spot {
 }
 
 // Where a node's place sends the walk: to a son, or to a comparison.
-#[derive(Drop)]
+#[derive(Clone, Copy)]
 pub enum Turn {
     Left,
     Right,
@@ -42,7 +44,7 @@ pub enum Turn {
 
 // What a node's step does there: the label is found, or the walk goes to the right son or else to the left one.
 // With it go P and S after the step, the slots of the nearest smaller and larger node, and the places that it examined.
-#[derive(Drop)]
+#[derive(Clone, Copy)]
 pub struct Step {
     pub found: bool,
     pub right: bool,

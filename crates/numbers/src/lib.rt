@@ -1,4 +1,6 @@
 // The table of place numbers: the number that stands for a byte at its place.
+#![tactic(auto)]
+
 ghost use Rattle.std.specs.Prelude.{◌≡◌, get_or};
 ghost use Rattle.labels.specs.Labels.{number_of};
 ghost use Rattle.numbers.specs.PlaceNumbers.{place_numbers};

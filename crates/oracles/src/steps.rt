@@ -7,7 +7,7 @@ use std::num::{wrapping_add_usize, wrapping_sub_usize};
 
 // Where the search stands: the next link, or the slot where it was found, the numbers P and S, the last nodes where it
 // went right and left, 0 for none, and both counts.
-#[derive(Drop)]
+#[derive(Clone, Copy)]
 struct State {
     link: usize,
     found: bool,

@@ -1,10 +1,12 @@
 // The order of two labels by the bytes at one place, or by their ends.
+#![tactic(auto)]
+
 ghost use Rattle.std.specs.Prelude.{◌≡◌, eqb};
 ghost use Rattle.labels.specs.Labels.{folded, number_of};
 ghost use Rattle.orders.specs.Orders.{by_numbers, parts, shown, at_end};
 
 // How the first of two labels lies to the second.
-#[derive(Drop)]
+#[derive(Clone, Copy)]
 pub enum Order {
     Smaller,
     Same,

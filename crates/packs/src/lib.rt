@@ -1,4 +1,6 @@
 // An answer packed in one number of 64 bits, for callers in languages that know no enum of the index.
+#![tactic(auto)]
+
 ghost use Rattle.std.specs.Prelude.{◌≡◌};
 ghost use Rattle.types.specs.Answers.{refused, refusal_number, search_says, update_says, done_says, list_says};
 ghost use Rattle.types.specs.SaveReplies.{save_says};

@@ -1,5 +1,7 @@
 // The pairing page's label index for other languages: the calls of `exports` at the page's limits, under names of their
 // own. What is asked of a caller is said there.
+#![tactic(auto)]
+
 ghost use Rattle.std.specs.Prelude.{◌≡◌};
 ghost use Rattle.types.specs.Sizes.{page};
 ghost use Rattle.tables.specs.Outcomes.{layout_outcome, search_outcome, insert_outcome, delete_outcome, check_outcome};

@@ -1,6 +1,8 @@
 // Insert and delete along a path of sides from the root, by a table's words alone: no label is lent to them.
 // A path is a number: its lowest bit is the first side, 1 for right. `rooted` sets the root that they leave.
 // Every function takes any table.
+#![tactic(auto)]
+
 ghost use Rattle.std.specs.Prelude.{◌≡◌, set};
 ghost use Rattle.turns.specs.Turns.{Yields};
 ghost use Rattle.slots.specs.Slots.{with_root_place};
@@ -10,7 +12,7 @@ use sides::rows;
 use turns::{Rebuilt, rotate};
 
 // A subtree without its smallest node, and that node's slot.
-#[derive(Drop)]
+#[derive(Clone, Copy)]
 pub struct Popped {
     pub rest: Rebuilt,
     pub least: u16,

@@ -1,6 +1,8 @@
 // A plain ordered map from labels to values and charges, to hold the index against: a sorted list of slots, looked
 // through from its start. It shares nothing with the index, no tree, no comparison and no layout. Each function takes
 // any arguments: what lies outside reads as 0 and is never written.
+#![tactic(auto)]
+
 pub mod files;
 pub mod labels;
 pub mod lists;
@@ -41,7 +43,7 @@ const UNKNOWN: usize = 255;
 
 // What the map says: a refusal's number, or 0 with the label's slot and value. A label that is not held has slot 0, and
 // a search says the slots of the nearest smaller and the nearest larger label, 0 for none.
-#[derive(Drop)]
+#[derive(Clone, Copy)]
 pub struct Said {
     pub refusal: usize,
     pub slot: usize,
@@ -82,7 +84,7 @@ fn between(map: &Lists, rank: usize) -> Said {
 }
 
 // Where a label stands in the list, or would: how many labels are below it, and whether it is held.
-#[derive(Drop)]
+#[derive(Clone, Copy)]
 struct Spot {
     rank: usize,
     held: bool,

@@ -6,14 +6,14 @@ use crate::{BYTES, CHARGES, COUNTS, HIGH, LENGTHS, SLOTS, UNKNOWN, VALUES, WIDTH
 use std::num::wrapping_add_usize;
 
 // What a file says: the number that refuses it, or 0 with the labels that it has.
-#[derive(Drop)]
+#[derive(Clone, Copy)]
 pub struct Outcome {
     pub refusal: usize,
     pub labels: usize,
 }
 
 // A number of a file, and the place after it; `NO_NUMBER` where no number stands.
-#[derive(Drop)]
+#[derive(Clone, Copy)]
 struct Number {
     value: usize,
     end: usize,

@@ -31,7 +31,7 @@ pub const CHARGE: usize = 10;
 pub const CHARGES: usize = 11;
 
 // An entry of the image, and what is written there.
-#[derive(Drop)]
+#[derive(Clone, Copy)]
 pub struct Written {
     entry: usize,
     to: usize,

@@ -20,7 +20,7 @@ const FULL: usize = 4;
 
 // A table: the first labels of a shape are inserted, all with one value; then each is deleted or given a charge, or
 // neither, where the call is a save; and the bytes of its file.
-#[derive(Drop)]
+#[derive(Clone, Copy)]
 pub struct Edge {
     pub shape: usize,
     pub labels: usize,

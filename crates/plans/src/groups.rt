@@ -34,7 +34,7 @@ pub const CHARGED: usize = 8;
 pub const CHARGE_EDGES: usize = 9;
 
 // A group: its way, its shape, and of how many labels.
-#[derive(Drop)]
+#[derive(Clone, Copy)]
 pub struct Plan {
     pub way: usize,
     pub shape: usize,

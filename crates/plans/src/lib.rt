@@ -1,5 +1,7 @@
 // Which calls the tests make, how they damage a sound table, which files they load, and at which lengths they lend
 // memory.
+#![tactic(auto)]
+
 pub mod bytes;
 pub mod changes;
 mod charges;

@@ -3,7 +3,7 @@ use samples::calls::SET_CHARGE;
 
 // Which call, on which label of which shape, with which charge where it sets one, and the refusal's number that it is
 // to have; `ANY_REFUSAL` where the judges alone say it.
-#[derive(Drop)]
+#[derive(Clone, Copy)]
 pub struct Planned {
     pub call: usize,
     pub shape: usize,

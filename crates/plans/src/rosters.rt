@@ -8,7 +8,7 @@ use std::num::wrapping_add_usize;
 
 // A roster's file: the number that stands before its labels, the labels, how many of its last bytes are cut, and the
 // number that refuses it, or 0.
-#[derive(Drop)]
+#[derive(Clone, Copy)]
 struct Straps {
     count: usize,
     labels: usize,

@@ -13,7 +13,7 @@ use Rattle.tables.specs.Written.{Memory}
 use Rattle.tables.specs.Sound.{state_of}
 use Rattle.tables.specs.Claims.{Sound}
 use Rattle.tables.proofs.Depths.{hub_depth}
-use Rattle.csv.specs.Rosters.{roster_outcome}
+use Rattle.rfc4180.specs.Rosters.{roster_outcome}
 use Rattle.demands.proofs.SoundAfter.{sound_after}
 use Rattle.demands.proofs.Hub.{hub_takes_rosters}
 use Rattle.inputs.specs.Inputs.{fresh}

@@ -12,7 +12,7 @@ use Rattle.types.specs.RosterReplies.{RosterReply}
 use Rattle.tables.specs.Written.{Memory, lent}
 use Rattle.tables.specs.Outcomes.{layout_outcome}
 use Rattle.tables.specs.Given.{Gives}
-use Rattle.csv.specs.Rosters.{roster_outcome, TakesRoster}
+use Rattle.rfc4180.specs.Rosters.{roster_outcome, TakesRoster}
 use Rattle.texts.specs.Puts.{Puts}
 use Rattle.inputs.proofs.Fresh.{layout_is_fresh}
 use Rattle.printouts.specs.Printouts.{answer_line, label_lines, printed_for, printout}

@@ -5,7 +5,7 @@ use Rattle.trees.specs.Trees.{Entry}
 use Rattle.tables.specs.Words.{row_at}
 use Rattle.tables.specs.Written.{Memory}
 use Rattle.tables.specs.Outcomes.{view_part}
-use Rattle.csv.specs.Rosters.{RosterOutcome}
+use Rattle.rfc4180.specs.Rosters.{RosterOutcome}
 use Rattle.printouts.specs.Printouts.{printed_for}
 
 -- the node in a slot, as the calls show it: the view its label, its row the rest

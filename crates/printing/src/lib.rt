@@ -1,11 +1,13 @@
 // The printing of a roster: it goes into a table, and the answer's line and a line for each label held, in ascending
 // order, are put at the front of a lent buffer. Reading and writing have a module of their own.
+#![tactic(auto)]
+
 pub mod pipes;
 
 ghost use Rattle.std.specs.Prelude.{◌≡◌, map, ◌+◌, ◌*◌, ◌≤◌, length, take};
 ghost use Rattle.types.specs.Sizes.{hub};
 ghost use Rattle.tables.specs.Written.{lent};
-ghost use Rattle.csv.specs.Rosters.{roster_outcome};
+ghost use Rattle.rfc4180.specs.Rosters.{roster_outcome};
 ghost use Rattle.texts.specs.Puts.{Puts};
 ghost use Rattle.printouts.specs.Printouts.{label_line, lines_for, label_lines, printout};
 ghost use Rattle.printouts.specs.Rooms.{line_room, print_room};

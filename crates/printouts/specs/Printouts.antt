@@ -8,7 +8,7 @@ use Rattle.trees.specs.Trees.{Entry, entries}
 use Rattle.tables.specs.Written.{Memory}
 use Rattle.tables.specs.Sound.{state_of}
 use Rattle.tables.specs.Outcomes.{Verdict, pass, refuse, of_memory, of_table}
-use Rattle.csv.specs.Rosters.{RosterOutcome, roster_outcome}
+use Rattle.rfc4180.specs.Rosters.{RosterOutcome, roster_outcome}
 use Rattle.texts.specs.Texts.{decimal, then_number, ok_word, no_word, line_end}
 use Rattle.inputs.specs.Inputs.{fresh}
 

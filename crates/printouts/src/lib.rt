@@ -1,4 +1,6 @@
 // The lines that `roster` prints, put at a place of a lent buffer. What stands before that place stays.
+#![tactic(auto)]
+
 ghost use Rattle.std.specs.Prelude.{◌++◌, ◌+◌, ◌≤◌, length};
 ghost use Rattle.types.specs.Sizes.{hub};
 ghost use Rattle.types.specs.Answers.{refusal_number};

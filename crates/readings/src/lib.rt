@@ -1,5 +1,7 @@
 // A roster's text read apart from the index, and what taking it is to say and to leave in a map. Each function takes
 // any text and any memory.
+#![tactic(auto)]
+
 pub mod machine;
 pub mod values;
 

@@ -6,7 +6,7 @@ use std::num::wrapping_add_usize;
 
 // Where the reading of a record stands: its state, the commas that ended a field, the bytes of the first and the second
 // field's content, the place of the last byte of a content, and the place after the byte read last.
-#[derive(Drop)]
+#[derive(Clone, Copy)]
 pub struct Reading {
     pub state: usize,
     pub commas: usize,

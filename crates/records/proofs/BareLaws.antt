@@ -11,8 +11,8 @@ use native.Mathlib.Nat.{le_refl}
 use native.Mathlib.Omega.{arith}
 use lib.ListN.{length, drop, get_or, drop_of_length-le}
 use lib.Seq.{drop-cons}
-use Rattle.csv.specs.Grammar.{is_textdata, NonEscaped, none, one}
-use Rattle.csv.specs.Records.{field, with_byte, bare_field}
+use Rattle.rfc4180.specs.Grammar.{is_textdata, NonEscaped, none, one}
+use Rattle.rfc4180.specs.Records.{field, with_byte, bare_field}
 use Rattle.records.specs.declared.Field.{Field}
 use Rattle.records.specs.Contents.{part_of, content_in, field_says, part_field, FieldInside}
 use Rattle.records.proofs.PartLaws.{part_empty, part_longer, part_then_rest, length_of_part, even_content}

@@ -15,7 +15,7 @@ use native.Mathlib.Decide.{dec_lt}
 use native.Mathlib.Omega.{arith}
 use lib.Dec.{eqb}
 use borrow.Author.Tests.{le-leb, lt-leb, ne_eqb}
-use Rattle.csv.specs.Grammar.{dquote, is_textdata, is_inner}
+use Rattle.rfc4180.specs.Grammar.{dquote, is_textdata, is_inner}
 
 module _ (byte : ℕ) where
   -- a byte below 32 is no TEXTDATA

@@ -13,7 +13,7 @@ use native.Mathlib.Omega.{arith}
 use borrow.Author.Tests.{not-true, not-false}
 use lib.ListN.{length, drop, get_or, drop_of_length-le}
 use lib.Seq.{drop-cons}
-use Rattle.csv.specs.Grammar.{cr, lf}
+use Rattle.rfc4180.specs.Grammar.{cr, lf}
 use Rattle.records.specs.Contents.{starts_with, line_end}
 use Rattle.records.proofs.PlaceLaws.{byte_and_rest, stands_inside}
 

@@ -6,8 +6,8 @@ use mathlib.Core.List.{List, [], ◌∷◌}
 use mathlib.Core.Path.{◌≡◌, refl, sym, ◌∙◌}
 use Prim.Native.Nat.{ℕ, ◌+◌}
 use lib.ListN.{drop}
-use Rattle.csv.specs.Grammar.{dquote}
-use Rattle.csv.specs.Records.{bare_field, quoted_field, take_field}
+use Rattle.rfc4180.specs.Grammar.{dquote}
+use Rattle.rfc4180.specs.Records.{bare_field, quoted_field, take_field}
 use Rattle.records.specs.declared.Field.{Field}
 use Rattle.records.specs.declared.Field.TheVariants.{Broken}
 use Rattle.records.specs.Contents.{starts_with, field_says, part_field, closed_at}

@@ -14,7 +14,7 @@ use lib.Dec.{eqb}
 use borrow.Author.Tests.{ne_eqb}
 use lib.ListN.{length, take, drop, get_or, set, length-set, length-append, drop_of_length-le}
 use lib.Seq.{drop-cons, drop-drop, take-suc-set, length-take-le}
-use Rattle.csv.specs.Grammar.{dquote}
+use Rattle.rfc4180.specs.Grammar.{dquote}
 use Rattle.records.specs.Contents.{undoubled, taken_width}
 
 -- ---- how many bytes are taken

@@ -11,8 +11,8 @@ use Prim.Native.Nat.{ℕ, ◌≤◌}
 use native.Mathlib.Omega.{arith}
 use lib.Dec.{eqb}
 use lib.ListN.{length}
-use Rattle.csv.specs.Grammar.{dquote, is_inner, Inner, none, one, two_quotes}
-use Rattle.csv.specs.Records.{FieldRead, no_field, field, with_byte, quoted_field}
+use Rattle.rfc4180.specs.Grammar.{dquote, is_inner, Inner, none, one, two_quotes}
+use Rattle.rfc4180.specs.Records.{FieldRead, no_field, field, with_byte, quoted_field}
 use Rattle.records.specs.Contents.{undoubled}
 use Rattle.records.proofs.ByteLaws.{quote_no_inner}
 

@@ -12,8 +12,8 @@ use Prim.Native.Nat.{ℕ, ◌+◌, ◌≤◌}
 use borrow.Author.Tests.{not-true, not-false}
 use lib.ListN.{length, drop}
 use Rattle.files.specs.FileReads.{no_entry_lem}
-use Rattle.csv.specs.Grammar.{comma}
-use Rattle.csv.specs.Records.{field, take_field, take_record}
+use Rattle.rfc4180.specs.Grammar.{comma}
+use Rattle.rfc4180.specs.Records.{field, take_field, take_record}
 use Rattle.records.specs.declared.Record.{Record}
 use Rattle.records.specs.declared.Content.{Content}
 use Rattle.records.specs.declared.Field.{Field}

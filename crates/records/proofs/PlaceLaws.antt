@@ -16,7 +16,7 @@ use lib.Dec.{eqb}
 use borrow.Author.Tests.{ne_eqb, eqb-true}
 use lib.ListN.{length, drop, get_or, drop_of_length-le}
 use lib.Seq.{drop-cons}
-use Rattle.csv.specs.Grammar.{dquote, is_inner}
+use Rattle.rfc4180.specs.Grammar.{dquote, is_inner}
 use Rattle.records.specs.Contents.{starts_with, inner_width}
 
 module _ (text : List ℕ) (at : ℕ) where

@@ -13,8 +13,8 @@ use lib.Dec.{eqb}
 use borrow.Author.Tests.{eqb-true}
 use lib.ListN.{length, drop, length-drop, length-append, drop_of_length-le}
 use lib.Seq.{drop-drop}
-use Rattle.csv.specs.Grammar.{dquote, Inner, none}
-use Rattle.csv.specs.Records.{no_field, field, quoted_field}
+use Rattle.rfc4180.specs.Grammar.{dquote, Inner, none}
+use Rattle.rfc4180.specs.Records.{no_field, field, quoted_field}
 use Rattle.records.specs.declared.Field.{Field}
 use Rattle.records.specs.declared.Field.TheVariants.{Broken}
 use Rattle.records.specs.Contents.{starts_with, inner_width, part_of, content_in, field_says, part_field, closed_at}

@@ -16,7 +16,7 @@ use Rattle.labels.specs.Labels.{Label}
 use Rattle.decimals.specs.declared.Value as value
 use Rattle.decimals.specs.Values.{value_says, value_of}
 use Rattle.files.specs.FileReads.{no_entry_lem, entry}
-use Rattle.csv.specs.Records.{take_field}
+use Rattle.rfc4180.specs.Records.{take_field}
 use Rattle.records.specs.declared.Record.{Record}
 use Rattle.records.specs.declared.Content.{Content}
 use Rattle.records.specs.declared.End.{End}

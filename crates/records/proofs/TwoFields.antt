@@ -10,9 +10,9 @@ use borrow.Author.Tests.{eqb-true}
 use lib.ListN.{length}
 use Rattle.decimals.specs.Values.{value_of}
 use Rattle.files.specs.FileReads.{no_entry_lem}
-use Rattle.csv.specs.Grammar.{comma, cr, lf}
-use Rattle.csv.specs.Records.{FieldRead, no_field, field, take_field, FieldsRead, no_fields, fields_of, with_field}
-use Rattle.csv.specs.Records.{line_ended, field_then, take_fields_with, take_fields, as_entry, take_record}
+use Rattle.rfc4180.specs.Grammar.{comma, cr, lf}
+use Rattle.rfc4180.specs.Records.{FieldRead, no_field, field, take_field, FieldsRead, no_fields, fields_of, with_field}
+use Rattle.rfc4180.specs.Records.{line_ended, field_then, take_fields_with, take_fields, as_entry, take_record}
 use Rattle.records.specs.Contents.{line_end, end_then, value_then, label_then}
 
 -- ---- three fields or more

@@ -13,7 +13,7 @@ use lib.ListN.{length, drop}
 use Rattle.decimals.specs.declared.Value as value
 use Rattle.decimals.specs.Decimals.{all_digits}
 use Rattle.decimals.specs.Values.{value_says, value_of}
-use Rattle.csv.specs.Grammar.{dquote}
+use Rattle.rfc4180.specs.Grammar.{dquote}
 use Rattle.records.specs.declared.Content.{Content}
 use Rattle.records.specs.Contents.{part_of, undoubled, content_in, ContentInside}
 use Rattle.records.proofs.PartLaws.{length_of_part}

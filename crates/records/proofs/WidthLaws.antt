@@ -10,8 +10,8 @@ use native.Mathlib.Omega.{arith}
 use lib.Dec.{eqb}
 use lib.ListN.{length, take, drop}
 use borrow.Author.Tests.{eqb-true}
-use Rattle.csv.specs.Grammar.{dquote, is_inner, Inner, none, one, two_quotes}
-use Rattle.csv.specs.Records.{FieldRead, no_field, field, quoted_field}
+use Rattle.rfc4180.specs.Grammar.{dquote, is_inner, Inner, none, one, two_quotes}
+use Rattle.rfc4180.specs.Records.{FieldRead, no_field, field, quoted_field}
 use Rattle.records.specs.Contents.{starts_with, inner_width}
 use Rattle.records.proofs.ByteLaws.{quote_no_inner}
 

@@ -4,8 +4,8 @@ use Rattle.std.proofs.Math.Option.{Option, none, some}
 use Rattle.labels.specs.Labels.{Label}
 use Rattle.decimals.specs.Values.{value_of}
 use Rattle.files.specs.FileReads.{EntryRead, no_entry_lem, entry}
-use Rattle.csv.specs.Grammar.{comma, cr, lf, dquote, is_inner}
-use Rattle.csv.specs.Records.{FieldRead, no_field, field, take_field, with_value}
+use Rattle.rfc4180.specs.Grammar.{comma, cr, lf, dquote, is_inner}
+use Rattle.rfc4180.specs.Records.{FieldRead, no_field, field, take_field, with_value}
 use Rattle.records.specs.declared.Record.{Record}
 use Rattle.records.specs.declared.End.{End}
 use Rattle.records.specs.declared.End.TheVariants.{Missing, At}

@@ -1,7 +1,7 @@
 // A field of a text, read at a position: escaped between quotes, or not. Its content is a part of the text.
 ghost use Rattle.std.specs.Prelude.{◌≡◌, ◌≤◌, ◌<◌, length, drop};
-ghost use Rattle.csv.specs.Grammar.{is_textdata, is_inner};
-ghost use Rattle.csv.specs.Records.{bare_field, quoted_field, take_field};
+ghost use Rattle.rfc4180.specs.Grammar.{is_textdata, is_inner};
+ghost use Rattle.rfc4180.specs.Records.{bare_field, quoted_field, take_field};
 ghost use Rattle.records.specs.Contents.{starts_with, inner_width, field_says, FieldInside};
 ghost use Rattle.records.specs.Contents.{part_field, closed_at};
 

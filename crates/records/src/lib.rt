@@ -1,11 +1,13 @@
 // A record of a roster's text, read at a position: two fields, of which the second is a value. Nothing is copied but
 // the label in which quotes stand doubled, by a call of its own.
+#![tactic(auto)]
+
 pub mod fields;
 pub mod quotes;
 
 ghost use Rattle.std.specs.Prelude.{◌≡◌, ◌≤◌, length, drop};
 ghost use Rattle.decimals.specs.Values.{value_says, value_of};
-ghost use Rattle.csv.specs.Records.{take_field, take_record};
+ghost use Rattle.rfc4180.specs.Records.{take_field, take_record};
 ghost use Rattle.records.specs.Contents.{content_in, ContentInside, line_end, end_says, end_of, value_then};
 ghost use Rattle.records.specs.Contents.{no_record, record_says, RecordInside, LabelRead};
 
@@ -13,7 +15,7 @@ use decimals::Value;
 
 // Where a content stands in the text, and how many bytes it has: fewer than the part from `start` to `end` where quotes
 // stand doubled there.
-#[derive(Drop)]
+#[derive(Clone, Copy)]
 pub struct Content {
     pub start: usize,
     pub end: usize,
@@ -21,7 +23,7 @@ pub struct Content {
 }
 
 // A field that is read, with the position after it; or it breaks the grammar.
-#[derive(Drop)]
+#[derive(Clone, Copy)]
 pub enum Field {
     Broken,
     Whole { content: Content, next: usize },
@@ -29,7 +31,7 @@ pub enum Field {
 
 // A record of a text: whether it is whole, its label, its value, and the position after it; all of these are 0 where it
 // is not whole.
-#[derive(Drop)]
+#[derive(Clone, Copy)]
 pub struct Record {
     pub whole: bool,
     pub label: Content,
@@ -38,7 +40,7 @@ pub struct Record {
 }
 
 // The position after a record, where one ends: behind CRLF, or at the text's end.
-#[derive(Drop)]
+#[derive(Clone, Copy)]
 pub enum End {
     Missing,
     At(usize),

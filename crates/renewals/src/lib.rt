@@ -1,4 +1,6 @@
 // Prefix fields renewed by labels, before a node is taken out: of the nodes that had it as a neighbour.
+#![tactic(auto)]
+
 ghost use Rattle.std.specs.Prelude.{◌≡◌, cond};
 ghost use Rattle.tables.specs.Words.{row_at};
 ghost use Rattle.fields.specs.Fits.{RowsFit};

@@ -1,4 +1,6 @@
 // What is said to a line: the call that it asks is made, and its answer's line is put into a lent buffer.
+#![tactic(auto)]
+
 ghost use Rattle.std.specs.Prelude.{◌≡◌, ◌+◌, ◌≤◌, length};
 ghost use Rattle.lines.specs.Commands.{asks};
 ghost use Rattle.inputs.specs.Inputs.{reply_to};

@@ -2,6 +2,8 @@
 // inserts of the same records, over texts written out by hand, cut short, changed, drawn and of many names, on sound
 // tables, damaged memory and memory of other lengths. One line is printed for each group, and one for each call that
 // does not agree: the expected output has none.
+#![tactic(auto)]
+
 mod calls;
 mod damage;
 mod groups;

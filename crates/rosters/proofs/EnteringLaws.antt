@@ -16,9 +16,9 @@ use Rattle.labels.proofs.Clashes.{clash}
 use Rattle.tables.specs.Written.{lent}
 use Rattle.tables.specs.Given.{Gives}
 use Rattle.files.specs.FileReads.{EntryRead, no_entry_lem, entry}
-use Rattle.csv.specs.Records.{take_record, records_of}
-use Rattle.csv.specs.Rosters.{RosterOutcome, roster_from, TakesRoster}
-use Rattle.csv.proofs.RecordLaws.{rest_shorter, records_of_none, records_of_some}
+use Rattle.rfc4180.specs.Records.{take_record, records_of}
+use Rattle.rfc4180.specs.Rosters.{RosterOutcome, roster_from, TakesRoster}
+use Rattle.rfc4180.proofs.RecordLaws.{rest_shorter, records_of_none, records_of_some}
 use Rattle.records.specs.declared.Record.{Record}
 use Rattle.records.specs.Contents.{content_in, record_says, RecordInside}
 use Rattle.rosters.specs.Inserted.{record_outcome, RosterReady, RecordReady}

@@ -17,8 +17,8 @@ use Rattle.tables.specs.Claims.{Sound}
 use Rattle.tables.specs.MapClaims.{Said, said, accepted, refused_by}
 use Rattle.endings.specs.Ready.{InsertsReady}
 use Rattle.files.specs.FileReads.{EntryRead, no_entry_lem, entry}
-use Rattle.csv.specs.Records.{record_then, records_of}
-use Rattle.csv.specs.Rosters.{RosterOutcome, stopped_at, roster_from, TakesRoster}
+use Rattle.rfc4180.specs.Records.{record_then, records_of}
+use Rattle.rfc4180.specs.Rosters.{RosterOutcome, stopped_at, roster_from, TakesRoster}
 use Rattle.demands.proofs.Refusals.{refused_leaves}
 use Rattle.demands.proofs.SoundAfter.{sound_stays}
 use Rattle.rosters.specs.Inserted.{record_outcome}

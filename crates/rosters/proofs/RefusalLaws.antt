@@ -27,7 +27,7 @@ use Rattle.verdicts.specs.Verdicts.{update_verdict}
 use Rattle.endings.specs.Ready.{Ready}
 use Rattle.endings.proofs.FirstTests.{refused_insert}
 use Rattle.files.specs.FileReads.{EntryRead, no_entry_lem, entry}
-use Rattle.csv.specs.Records.{take_record}
+use Rattle.rfc4180.specs.Records.{take_record}
 use Rattle.demands.proofs.Outcomes.{memory_passes}
 use Rattle.records.specs.declared.Record.{Record}
 use Rattle.records.specs.Contents.{content_in, record_says, RecordInside}

@@ -23,9 +23,9 @@ use Rattle.lengths.specs.Early.{early_says}
 use Rattle.lengths.proofs.FirstLines.{Decides, one_line, in_turn, memory_decides, lines_refused, lines_passed}
 use Rattle.lengths.proofs.FirstLines.{memory_refused, memory_passed, line_passed, sizes_passed, label_passed, no_pass}
 use Rattle.files.specs.FileReads.{EntryRead, no_entry_lem, entry}
-use Rattle.csv.specs.Records.{take_record, records_of}
-use Rattle.csv.specs.Rosters.{longest_text, RosterOutcome, roster_from, of_text, roster_outcome, TakesRoster}
-use Rattle.csv.proofs.RecordLaws.{records_of_none, records_of_some}
+use Rattle.rfc4180.specs.Records.{take_record, records_of}
+use Rattle.rfc4180.specs.Rosters.{longest_text, RosterOutcome, roster_from, of_text, roster_outcome, TakesRoster}
+use Rattle.rfc4180.proofs.RecordLaws.{records_of_none, records_of_some}
 use Rattle.rosters.specs.Inserted.{of_record, RosterReady, RosterFits, SizesReady}
 use Rattle.rosters.proofs.RefusalLaws.{entry_refused}
 use Rattle.rosters.proofs.OneMore.{refused_ends}

@@ -1,6 +1,8 @@
 // Taking a roster within any limits: its records are read and inserted one after the other, up to the first that is
 // refused. Table and store are tested once, after the first record's own tests. A refused record has changed nothing;
 // those before it stay in.
+#![tactic(auto)]
+
 ghost use Rattle.std.specs.Prelude.{◌≡◌, ◌≤◌, length};
 ghost use Rattle.types.specs.Answers.{update_says};
 ghost use Rattle.types.specs.RosterReplies.{roster_says};
@@ -9,8 +11,8 @@ ghost use Rattle.tables.specs.Outcomes.{pass, of_memory, of_table, insert_outcom
 ghost use Rattle.tables.specs.Given.{Gives};
 ghost use Rattle.words.specs.Limits.{LimitsFit, SizesFit};
 ghost use Rattle.lengths.specs.Early.{early_says};
-ghost use Rattle.csv.specs.Records.{take_record, records_of};
-ghost use Rattle.csv.specs.Rosters.{roster_from, of_text, roster_outcome, TakesRoster};
+ghost use Rattle.rfc4180.specs.Records.{take_record, records_of};
+ghost use Rattle.rfc4180.specs.Rosters.{roster_from, of_text, roster_outcome, TakesRoster};
 ghost use Rattle.records.specs.Contents.{content_in, record_says};
 ghost use Rattle.rosters.specs.Inserted.{of_record, record_verdict, record_outcome};
 ghost use Rattle.rosters.specs.Inserted.{LabelReady, RecordReady, RosterReady, RosterFits, SizesReady};

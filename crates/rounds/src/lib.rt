@@ -1,4 +1,6 @@
 // Calls of the index, each compared with what the plain map and the second writing of the paper say.
+#![tactic(auto)]
+
 pub mod calls;
 mod hub;
 pub mod loads;

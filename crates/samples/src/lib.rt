@@ -1,4 +1,6 @@
 // What the tests draw from: the calls by number, labels by number, charges, and numbers that look random.
+#![tactic(auto)]
+
 pub mod calls;
 pub mod charges;
 pub mod numbers;

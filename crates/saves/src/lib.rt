@@ -1,5 +1,7 @@
 // The save of a sound table: the file of its labels, written into a lent output. One walk over the tree counts its
 // bytes, and where they fit a second one writes them.
+#![tactic(auto)]
+
 ghost use Rattle.std.specs.Prelude.{◌≡◌, ◌^◌, ◌<◌, length};
 ghost use Rattle.types.specs.SaveReplies.{save_says};
 ghost use Rattle.words.specs.Limits.{LimitsFit};

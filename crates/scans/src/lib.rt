@@ -1,5 +1,7 @@
 // A saved file read in order, and nothing written: its entries, and whether the whole of it can be loaded.
 // It ends at the first number or label that is not as it must be.
+#![tactic(auto)]
+
 pub mod groups;
 
 ghost use Rattle.std.specs.Prelude.{not, ◌≡◌, ◌≤◌, [], length, drop};
@@ -15,7 +17,7 @@ use orders::Order;
 use types::{Limits, Refusal};
 
 // A number that is read and the position after it; or it is cut short, has needless groups or is outside its limit.
-#[derive(Drop)]
+#[derive(Clone, Copy)]
 pub enum Number {
     Broken,
     Read { n: usize, next: usize },
@@ -23,7 +25,7 @@ pub enum Number {
 
 // An entry of a file: whether it is whole, where its label starts and ends, its value, and the position after it; all
 // of these are 0 where its length, its bytes or its value are not as they must be.
-#[derive(Drop)]
+#[derive(Clone, Copy)]
 pub struct Entry {
     pub whole: bool,
     pub start: usize,

@@ -1,5 +1,7 @@
 // Texts of rosters: written out by hand, made of drawn pieces, and of many names. Each is written into the front of an
 // array.
+#![tactic(auto)]
+
 pub mod drawn;
 pub mod names;
 mod signs;
@@ -7,7 +9,7 @@ pub mod written;
 
 // A text: its bytes, and what is to come of taking it: so many records go in, or where the refusal is not 0 the record
 // of that number is refused. While it is written, whether the two numbers before it are read.
-#[derive(Drop)]
+#[derive(Clone, Copy)]
 pub struct Sheet {
     pub bytes: usize,
     pub records: usize,

@@ -5,7 +5,7 @@ use std::num::wrapping_sub_usize;
 
 // A step: the names of a shape, from one on, so far apart in a ring of a thousand, so many. A text of them is taken, by
 // an empty table or on top of what is held, and so many records go in, or that one is refused; or they are deleted.
-#[derive(Drop)]
+#[derive(Clone, Copy)]
 pub struct Step {
     pub way: usize,
     pub shape: usize,

@@ -1,5 +1,7 @@
 // The shell over the label index: it takes the bytes of an input as they come, and the input's end, and puts what it
 // says into a lent buffer. Reading and writing have a module of their own.
+#![tactic(auto)]
+
 pub mod pipes;
 
 ghost use Rattle.std.specs.Prelude.{◌≡◌, ◌+◌, ◌*◌, ◌≤◌, length};
@@ -9,7 +11,7 @@ ghost use Rattle.shell.specs.Shells.{shell_of, progress_of, Ends};
 use keeps::Line;
 
 // What is kept of the line that has begun, and where the text that was put ends.
-#[derive(Drop)]
+#[derive(Clone, Copy)]
 pub struct Progress {
     pub line: Line,
     pub end: usize,

@@ -14,7 +14,7 @@ pub fn run(input: i32) {
 }
 
 // What a read leaves: the line that has begun, and whether more may come.
-#[derive(Drop)]
+#[derive(Clone, Copy)]
 struct After {
     line: Line,
     more: bool,

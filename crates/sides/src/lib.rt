@@ -1,12 +1,14 @@
 // Rows of a table seen from a side, and the rows that a rotation stores. Both sides are one: `flip` is true where the
 // near side is the right one, and a row is then read and stored with its sides exchanged.
 // A read past the table's end gives 0, a store past its end does nothing.
+#![tactic(auto)]
+
 pub mod doubles;
 pub mod rotated;
 pub mod rows;
 
 // The balances of the three nodes of a double rotation, in label order.
-#[derive(Drop)]
+#[derive(Clone, Copy)]
 pub struct Balances {
     pub lower: u16,
     pub middle: u16,

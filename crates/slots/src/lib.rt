@@ -1,5 +1,7 @@
 // Slots taken and freed in a table of any length, and labels set into a store and taken out of it.
 // A word or a byte past the end is not stored.
+#![tactic(auto)]
+
 ghost use Rattle.std.specs.Prelude.{◌≡◌, cond, ◌+◌, ◌<◌, eqb, set};
 ghost use Rattle.tables.specs.Words.{first_free, high_mark, row_at};
 ghost use Rattle.words.specs.Limits.{LimitsFit};
@@ -9,7 +11,7 @@ ghost use Rattle.slots.specs.Slots.{with_label, without_label};
 use types::{Limits, Row};
 
 // The free chain's first slot, or none.
-#[derive(Drop)]
+#[derive(Clone, Copy)]
 pub enum Free {
     Slot(u16),
     None,

@@ -1,1 +1,2 @@
 // The search steps go as the full comparison search goes: laws, no code.
+#![tactic(auto)]

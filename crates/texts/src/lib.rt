@@ -1,5 +1,7 @@
 // The line that answers a line of `hubshell`, put at a place of a lent buffer. What stands before that place stays.
 // A number and a text are put by functions of their own, which serve other lines too.
+#![tactic(auto)]
+
 ghost use Rattle.std.specs.Prelude.{◌++◌, ◌≤◌, ◌+◌, length};
 ghost use Rattle.types.specs.Answers.{search_says, update_says, refusal_number, refused};
 ghost use Rattle.texts.specs.Texts.{text_of, text_said, then_number, then_counts, decimal_with};
@@ -8,7 +10,7 @@ ghost use Rattle.texts.specs.Puts.{Puts};
 use types::{Refusal, SearchAnswer, UpdateAnswer};
 
 // What is said to a line: the answer of the call that it asks, or that it asks nothing.
-#[derive(Drop)]
+#[derive(Clone, Copy)]
 pub enum Said {
     Update(UpdateAnswer),
     Search(SearchAnswer),

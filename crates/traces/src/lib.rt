@@ -1,10 +1,11 @@
 // The search of an update: where it ended, and the way it went.
+#![tactic(auto)]
 
 pub mod tracing;
 
 // Where a search ended: the slot found, 0 for none; the numbers P and S of the search steps; the slots of the nearest
 // smaller and larger node on the way, 0 for none; the way, a bit for each side taken; and the counts.
-#[derive(Drop)]
+#[derive(Clone, Copy)]
 pub struct Trace {
     pub found: u16,
     pub p: usize,

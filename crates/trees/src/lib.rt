@@ -1,1 +1,2 @@
 // The plain tree: definitions and their laws, no code.
+#![tactic(auto)]

@@ -1,6 +1,8 @@
 // The executed tests: the index beside a plain ordered map and a second writing of the paper, over whole rosters, calls
 // from a fixed generator, files saved and loaded, damaged memory and memory of other lengths. One line is printed for
 // each group, and one for each call that does not agree: the expected output has none.
+#![tactic(auto)]
+
 mod cuts;
 mod damage;
 mod edges;

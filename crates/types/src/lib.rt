@@ -1,10 +1,12 @@
 // The values that the calls of the label index take and give.
+#![tactic(auto)]
+
 ghost use Rattle.std.specs.Prelude.{◌≡◌};
 ghost use Rattle.types.specs.Sizes.{hub, page};
 ghost use Rattle.types.specs.Answers.{refusal_number};
 
 // The sizes of an index: slots of the table, bytes of a label, nodes on a path from the root.
-#[derive(Drop)]
+#[derive(Clone, Copy)]
 pub struct Limits {
     pub slots: usize,
     pub width: usize,
@@ -12,7 +14,7 @@ pub struct Limits {
 }
 
 // The eight words of a slot.
-#[derive(Drop)]
+#[derive(Clone, Copy)]
 pub struct Row {
     pub left: u16,
     pub right: u16,
@@ -25,7 +27,7 @@ pub struct Row {
 }
 
 // Why a call is refused, in the order in which the reasons are looked for.
-#[derive(Drop)]
+#[derive(Clone, Copy)]
 pub enum Refusal {
     WrongTable,
     WrongStore,
@@ -74,7 +76,7 @@ pub fn number_of(refusal: Refusal) -> usize
 }
 
 // What a search says. With absent go the slots of the nearest smaller and the nearest larger label held, 0 for none.
-#[derive(Drop)]
+#[derive(Clone, Copy)]
 pub enum SearchAnswer {
     Found {
         slot: usize,
@@ -92,7 +94,7 @@ pub enum SearchAnswer {
 }
 
 // What an insert, a delete or a charge set says: the label's slot, and the counts of the search that it made.
-#[derive(Drop)]
+#[derive(Clone, Copy)]
 pub enum UpdateAnswer {
     Updated {
         slot: usize,
@@ -103,28 +105,28 @@ pub enum UpdateAnswer {
 }
 
 // What a call says that has nothing else to tell: layout, the check, the first call of the view.
-#[derive(Drop)]
+#[derive(Clone, Copy)]
 pub enum DoneAnswer {
     Done,
     Refused(Refusal),
 }
 
 // What a listing says: how many slots it wrote.
-#[derive(Drop)]
+#[derive(Clone, Copy)]
 pub enum ListAnswer {
     Listed(usize),
     Refused(Refusal),
 }
 
 // What a save says: how many bytes it wrote.
-#[derive(Drop)]
+#[derive(Clone, Copy)]
 pub enum SaveAnswer {
     Saved(usize),
     Refused(Refusal),
 }
 
 // What a load says: how many labels it loaded.
-#[derive(Drop)]
+#[derive(Clone, Copy)]
 pub enum LoadAnswer {
     Loaded(usize),
     Refused(Refusal),
@@ -132,7 +134,7 @@ pub enum LoadAnswer {
 
 // What taking a roster says: how many records went in, or the number of the first refused one, from 1, and its refusal;
 // 0 where the lent memory or the text is refused.
-#[derive(Drop)]
+#[derive(Clone, Copy)]
 pub enum RosterAnswer {
     Taken(usize),
     Refused { number: usize, refusal: Refusal },

@@ -1,5 +1,7 @@
 // The refusals before a call uses the tree: by the lent lengths, the label, and the soundness of the whole table.
 // The check is those of a whole table, and nothing else.
+#![tactic(auto)]
+
 pub mod labelled;
 
 ghost use Rattle.std.specs.Prelude.{◌≡◌};

@@ -1,5 +1,7 @@
 // The label view of an index of any sizes, in two calls on equal inputs: one gives the refusal number or done,
 // the other the part of the store.
+#![tactic(auto)]
+
 ghost use Rattle.std.specs.Prelude.{◌≡◌, length};
 ghost use Rattle.types.specs.Sizes.{table_length};
 ghost use Rattle.types.specs.Answers.{done, done_says};

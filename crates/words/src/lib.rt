@@ -1,5 +1,7 @@
 // The lent memory: the rows of a table (the eight words of a slot, read and written as one value), and the parts of a
 // store. Slots are counted from 1.
+#![tactic(auto)]
+
 pub mod charge;
 pub mod parts;
 pub mod runs;

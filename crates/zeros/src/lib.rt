@@ -1,4 +1,6 @@
 // Whether bytes or words are all zero. Eight bytes are read as one number, which is 0 where each of them is.
+#![tactic(auto)]
+
 ghost use Rattle.std.specs.Prelude.{◌≡◌, ◌+◌, ◌*◌, ◌≤◌, length, take, drop};
 ghost use Rattle.tables.specs.Sound.{all_zero};
 ghost use Rattle.zeros.specs.Fours.{InFours};

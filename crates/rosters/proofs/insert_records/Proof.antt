@@ -5,8 +5,8 @@ use native.Mathlib.Omega.{arith}
 use lib.ListN.{length}
 use borrow.Author.Rules.{rules}
 use Rattle.tables.specs.Written.{lent}
-use Rattle.csv.specs.Records.{records_of}
-use Rattle.csv.specs.Rosters.{roster_from}
+use Rattle.rfc4180.specs.Records.{records_of}
+use Rattle.rfc4180.specs.Rosters.{roster_from}
 use Rattle.rosters.proofs.EnteringLaws.{Entering, entering_begins, record_fits, entering_less}
 use Rattle.rosters.proofs.EnteringLaws.{entering_goes_on, entering_stops, entering_ends}
 use Rattle.rosters.proofs.insert_records.Statement.{statement}

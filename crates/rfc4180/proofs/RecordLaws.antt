@@ -15,9 +15,9 @@ use Rattle.labels.specs.Labels.{Label}
 use Rattle.labels.proofs.Clashes.{clash}
 use Rattle.decimals.specs.Values.{value_of}
 use Rattle.files.specs.FileReads.{EntryRead, no_entry_lem, entry}
-use Rattle.csv.specs.Records.{FieldsRead, no_fields, fields_of, take_fields, with_value, as_entry, take_record}
-use Rattle.csv.specs.Records.{record_then, records_with, records_of}
-use Rattle.csv.proofs.RecordsTaken.{only_at_front, two_fields_shorten}
+use Rattle.rfc4180.specs.Records.{FieldsRead, no_fields, fields_of, take_fields, with_value, as_entry, take_record}
+use Rattle.rfc4180.specs.Records.{record_then, records_with, records_of}
+use Rattle.rfc4180.proofs.RecordsTaken.{only_at_front, two_fields_shorten}
 
 -- fields that are a label, and one more
 pub record TwoFields (r : FieldsRead) (x : Label) (rest : List ℕ) : Type 0 where

@@ -5,7 +5,7 @@ use Rattle.std.proofs.Math.Option.{Option, none, some}
 use Rattle.labels.specs.Labels.{Label}
 use Rattle.decimals.specs.Values.{value_of}
 use Rattle.files.specs.FileReads.{EntryRead, no_entry_lem, entry}
-use Rattle.csv.specs.Grammar.{comma, cr, lf, dquote, is_textdata, is_inner}
+use Rattle.rfc4180.specs.Grammar.{comma, cr, lf, dquote, is_textdata, is_inner}
 
 -- ---- a field
 

@@ -10,10 +10,10 @@ use native.Mathlib.Omega.{arith}
 use lib.ListN.{length, length-append}
 use Rattle.labels.proofs.Clashes.{clash}
 use Rattle.labels.proofs.Numbers.{Eqb, eq_yes, eq_no, eqb_view}
-use Rattle.csv.specs.Grammar.{comma, cr, lf, Field, Record, AtFront, last, ended}
-use Rattle.csv.specs.Records.{FieldRead, field, FieldsRead, no_fields, fields_of, with_field, line_ended}
-use Rattle.csv.specs.Records.{field_then, take_fields_with, take_fields}
-use Rattle.csv.proofs.FieldsTaken.{Taken, none_taken, taken, field_view}
+use Rattle.rfc4180.specs.Grammar.{comma, cr, lf, Field, Record, AtFront, last, ended}
+use Rattle.rfc4180.specs.Records.{FieldRead, field, FieldsRead, no_fields, fields_of, with_field, line_ended}
+use Rattle.rfc4180.specs.Records.{field_then, take_fields_with, take_fields}
+use Rattle.rfc4180.proofs.FieldsTaken.{Taken, none_taken, taken, field_view}
 
 -- the fields of a record that the grammar derives at the front of a text, with what comes after it
 data RecordTaken (text : List ℕ) : FieldsRead → Type 0 where

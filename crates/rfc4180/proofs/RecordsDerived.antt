@@ -5,9 +5,9 @@ use mathlib.Core.Path.{◌≡◌, ap}
 use Prim.Native.Nat.{ℕ, zero, suc, ◌<◌}
 use native.Mathlib.Omega.{arith}
 use lib.ListN.{length, length-append}
-use Rattle.csv.specs.Grammar.{cr, lf, Record, AtFront, last, ended}
-use Rattle.csv.specs.Records.{fields_of, with_field, take_fields_with, take_fields}
-use Rattle.csv.proofs.FieldsDerived.{at_end_lem, at_comma, at_return, read_field}
+use Rattle.rfc4180.specs.Grammar.{cr, lf, Record, AtFront, last, ended}
+use Rattle.rfc4180.specs.Records.{fields_of, with_field, take_fields_with, take_fields}
+use Rattle.rfc4180.proofs.FieldsDerived.{at_end_lem, at_comma, at_return, read_field}
 
 -- the end of a record, and what comes after it: the text's end, or CRLF
 data Ends : (end rest : List ℕ) → Type 0 where

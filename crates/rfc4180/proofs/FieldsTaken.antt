@@ -6,9 +6,9 @@ use mathlib.Core.List.{List, [], ◌∷◌, ◌++◌, append_assoc}
 use mathlib.Core.Path.{◌≡◌, refl, ap}
 use Prim.Native.Nat.{ℕ}
 use Rattle.labels.proofs.Numbers.{Eqb, eq_yes, eq_no, eqb_view}
-use Rattle.csv.specs.Grammar.{dquote, is_textdata, is_inner}
-use Rattle.csv.specs.Grammar.{NonEscaped, Inner, Field, escaped, non_escaped}
-use Rattle.csv.specs.Records.{FieldRead, no_field, field, with_byte, bare_field, quoted_field, take_field}
+use Rattle.rfc4180.specs.Grammar.{dquote, is_textdata, is_inner}
+use Rattle.rfc4180.specs.Grammar.{NonEscaped, Inner, Field, escaped, non_escaped}
+use Rattle.rfc4180.specs.Records.{FieldRead, no_field, field, with_byte, bare_field, quoted_field, take_field}
 
 -- ---- a field that is not escaped
 

@@ -3,8 +3,8 @@
 use Rattle.std.specs.Prelude.{List, [], ◌∷◌, ◌≡◌, ℕ}
 use Rattle.labels.specs.Labels.{Label}
 use Rattle.files.specs.FileReads.{EntryRead, no_entry_lem, entry}
-use Rattle.csv.specs.Grammar.{AtFront, File}
-use Rattle.csv.specs.Records.{fields_of, take_fields, as_entry, records_of}
+use Rattle.rfc4180.specs.Grammar.{AtFront, File}
+use Rattle.rfc4180.specs.Records.{fields_of, take_fields, as_entry, records_of}
 
 -- what is read of the records of a file: label and value of each, up to the first that has not two fields or no value
 pub data ReadAs : (records : List (List (List ℕ))) (entries : List EntryRead) → Type 0 where

@@ -7,7 +7,7 @@ use Rattle.tables.specs.Written.{Memory, lent}
 use Rattle.tables.specs.Outcomes.{Verdict, pass, refuse, line, of_memory, Outcome, insert_outcome}
 use Rattle.tables.specs.MapClaims.{said, accepted, refused_by}
 use Rattle.files.specs.FileReads.{EntryRead, no_entry_lem, entry}
-use Rattle.csv.specs.Records.{records_of}
+use Rattle.rfc4180.specs.Records.{records_of}
 
 -- "a lent slice of at most 16,384 bytes"
 abbrev pub longest_text : ℕ

@@ -8,9 +8,9 @@ use Prim.Native.Nat.{ℕ}
 use lib.Dec.{eqb}
 use Rattle.labels.proofs.Clashes.{clash}
 use Rattle.labels.proofs.Numbers.{Eqb, eq_yes, eq_no, eqb_view}
-use Rattle.csv.specs.Grammar.{comma, cr, dquote, is_textdata, is_inner, NonEscaped, Inner, Field, escaped}
-use Rattle.csv.specs.Grammar.{non_escaped}
-use Rattle.csv.specs.Records.{no_field, field, with_byte, bare_field, quoted_field, take_field}
+use Rattle.rfc4180.specs.Grammar.{comma, cr, dquote, is_textdata, is_inner, NonEscaped, Inner, Field, escaped}
+use Rattle.rfc4180.specs.Grammar.{non_escaped}
+use Rattle.rfc4180.specs.Records.{no_field, field, with_byte, bare_field, quoted_field, take_field}
 
 -- what comes after a field
 pub data Stops : (rest : List ℕ) → Type 0 where

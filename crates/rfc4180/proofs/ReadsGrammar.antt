@@ -7,13 +7,13 @@ use native.Mathlib.Omega.{arith}
 use lib.ListN.{length}
 use Rattle.labels.specs.Labels.{Label}
 use Rattle.files.specs.FileReads.{EntryRead, no_entry_lem, entry}
-use Rattle.csv.specs.Grammar.{File}
-use Rattle.csv.specs.Records.{fields_of, take_fields, as_entry, take_record}
-use Rattle.csv.specs.Records.{record_then, records_with, records_of}
-use Rattle.csv.specs.Agrees.{ReadAs, AllWhole, ReadsGrammar}
-use Rattle.csv.proofs.RecordsTaken.{only_at_front}
-use Rattle.csv.proofs.RecordLaws.{two_fields, rest_shorter, records_of_some}
-use Rattle.csv.proofs.RecordsDerived.{read_at_front}
+use Rattle.rfc4180.specs.Grammar.{File}
+use Rattle.rfc4180.specs.Records.{fields_of, take_fields, as_entry, take_record}
+use Rattle.rfc4180.specs.Records.{record_then, records_with, records_of}
+use Rattle.rfc4180.specs.Agrees.{ReadAs, AllWhole, ReadsGrammar}
+use Rattle.rfc4180.proofs.RecordsTaken.{only_at_front}
+use Rattle.rfc4180.proofs.RecordLaws.{two_fields, rest_shorter, records_of_some}
+use Rattle.rfc4180.proofs.RecordsDerived.{read_at_front}
 
 -- ---- a text that the grammar derives
 
