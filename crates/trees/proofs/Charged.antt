@@ -5,13 +5,13 @@
 -- charges_of_inserted, charges_of_deleted, charges_of_charged: the nodes have charges of 0 to 100 or 255 still.
 use mathlib.Core.Bool.{true, ◌&&◌, and_assoc}
 use mathlib.Core.List.{List, [], ◌∷◌, ◌++◌, map, map-append}
-use mathlib.Core.Path.{◌≡◌, refl, ap, sym, ◌∙◌}
+use mathlib.Core.Path.{◌≡◌, refl, sym, ◌∙◌}
 use Prim.Native.Nat.{ℕ, suc, max}
 use Rattle.labels.specs.Labels.{Label, Comparison, smaller, same, larger, compare_labels}
 use Rattle.trees.specs.Trees.{Entry, Tree, empty, node, NodeOf, at_root, on_left_lem, on_right_lem, entries, labels}
 use Rattle.trees.specs.Trees.{slots, charges, size}
 use Rattle.trees.specs.Charges.{is_charge, all_charges, with_charge, charged_by, charged}
-use Rattle.trees.specs.Heights.{height, is_balanced, Balanced}
+use Rattle.trees.specs.Heights.{height, is_balanced}
 use Rattle.trees.specs.Searches.{absent, found, full_search}
 use Rattle.trees.specs.Updates.{inserted, deleted}
 use Rattle.trees.proofs.Views.{both_true}
@@ -94,7 +94,7 @@ pub charges_of_node : (l : Tree) (e : Entry) (r : Tree)
 charges_of_node l e r = charges_append (entries l) (e ∷ entries r)
 
 -- So each node of a tree with charges has one.
-pub charge_of_node : {t : Tree} {e : Entry} → NodeOf e t → all_charges (charges t) ≡ true → is_charge e.charge ≡ true
+pub charge_of_node : {e : Entry} {t : Tree} → NodeOf e t → all_charges (charges t) ≡ true → is_charge e.charge ≡ true
 charge_of_node {e = e} (at_root {l} {r}) fit =
     ((both_true (is_charge e.charge) _).0 (charges_split (entries l) (e ∷ entries r) fit).1).0
 charge_of_node (on_left_lem {l} {r} {d} there) fit = charge_of_node there (charges_split (entries l) (d ∷ entries r) fit).0

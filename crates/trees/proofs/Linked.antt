@@ -52,8 +52,8 @@ linked_append (linked_step before rest) after = linked_step before (linked_appen
 pub linked_split : {p s : Neighbour} (first : List Label) {last : List Label} {x : Label}
     → Linked p (first ++ (x ∷ last)) s → Linked p first (held x) × Linked (held x) last s
 linked_split [] (linked_step before rest) = (linked_end before, rest)
-linked_split (y ∷ first) (linked_step before rest) =
-    (linked_step before (linked_split first rest).0, (linked_split first rest).1)
+linked_split {p = p} (y ∷ first) (linked_step before rest) =
+    (linked_step before (linked_split {p = held y} first rest).0, (linked_split {p = held y} first rest).1)
 
 -- A list that ascends from a label is linked from it to no label above.
 linked_from : (x : Label) (list : List Label) → ascends (x ∷ list) ≡ true → Linked (held x) list none_above

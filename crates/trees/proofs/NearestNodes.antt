@@ -101,7 +101,7 @@ as_far_of_way {side} (passes {l} {r} {e} stands way) ordered there beside =
 -- ---- the nodes of a tree and the pairs of its map
 
 -- A node is one of the entries,
-member_of_node : {t : Tree} {d : Entry} → NodeOf d t → Memᴰ d (entries t)
+member_of_node : {d : Entry} {t : Tree} → NodeOf d t → Memᴰ d (entries t)
 member_of_node (at_root {l}) = Memᴰ.append_right (entries l) (Memᴰ.head refl)
 member_of_node (on_left_lem there) = Memᴰ.append_left _ (member_of_node there)
 member_of_node (on_right_lem {l} there) = Memᴰ.append_right (entries l) (Memᴰ.tail (member_of_node there))

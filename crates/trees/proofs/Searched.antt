@@ -45,7 +45,7 @@ found_node x (node l d r) finds =
     node_by l r d (full_search x l) (full_search x r) (compare_labels x d.label) finds (found_node x l) (found_node x r)
 
 -- A node of an ordered tree lies within the tree's window.
-pub node_between : {t : Tree} {e : Entry} {p s : Neighbour} → Between p s t → NodeOf e t
+pub node_between : {e : Entry} {t : Tree} {p s : Neighbour} → Between p s t → NodeOf e t
     → Before p (held e.label) × Before (held e.label) s
 node_between between at_root = (between.above, between.below)
 node_between between (on_left_lem there) =
@@ -56,7 +56,7 @@ node_between between (on_right_lem there) =
     (before_trans between.above within.0, within.1)
 
 -- A search of an ordered tree for a label alike to that of one of its nodes finds that node.
-pub node_found : (p s : Neighbour) (x : Label) {t : Tree} {e : Entry} → Between p s t → NodeOf e t → Alike x e.label
+pub node_found : {e : Entry} (p s : Neighbour) (x : Label) {t : Tree} → Between p s t → NodeOf e t → Alike x e.label
     → (full_search x t).result ≡ found e
 node_found p s x between at_root alike = rw (compare_same alike)
 node_found p s x between (on_left_lem {d = d} there) alike =
