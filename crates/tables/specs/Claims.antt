@@ -1,7 +1,6 @@
 -- The claims: sound tables are the written-out trees; demand 3, the cost rule over a whole list of calls. Demand 2 is
 -- MapClaims.
 use Rattle.std.specs.Prelude.{List, [], ◌∷◌, ◌≡◌, true, false, ℕ, ◌+◌, ◌≤◌, length}
-use Rattle.std.proofs.Math.Option.{some}
 use Rattle.types.specs.declared.Limits.{Limits}
 use Rattle.types.specs.Sizes.{table_length, store_length}
 use Rattle.types.specs.Answers.{found}

@@ -1,6 +1,6 @@
 -- What each public call answers and leaves, on lent memory of any length and content ('Updates' and 'Where each call
 -- turns away' of document 01).
-use Rattle.std.specs.Prelude.{List, [], ◌++◌, Bool, true, false, not, ◌||◌, ℕ, ◌+◌, eqb, ltb, length, drop, replicate}
+use Rattle.std.specs.Prelude.{List, [], ◌++◌, Bool, true, false, not, ◌||◌, ℕ, eqb, ltb, length, drop, replicate}
 use Rattle.types.specs.declared.Limits.{Limits}
 use Rattle.types.specs.Sizes.{table_length, store_length}
 use Rattle.types.specs.Answers.{Answer, found, absent, updated, listed, done, refused}
