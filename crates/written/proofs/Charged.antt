@@ -2,7 +2,6 @@
 -- link-of-charged: the root's slot stays. label-of-charged: so does every slot's label.
 -- row-besides, row-of-found: so does the row of every slot but the found node's, which has the charge.
 -- charge-written: word 7 of the found node's slot stored is the plain tree's next state written out.
-use mathlib.Core.Bool.{false}
 use mathlib.Core.List.{List, [], ◌++◌}
 use mathlib.Core.Logic.{◌≢◌}
 use mathlib.Core.Path.{◌≡◌, refl, sym, ap, ◌∙◌}

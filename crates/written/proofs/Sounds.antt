@@ -10,7 +10,7 @@ use lib.ListN.{length}
 use borrow.Author.Tests.{eq-eqb, le-leb}
 use Rattle.types.specs.declared.Limits.{Limits}
 use Rattle.labels.specs.Neighbours.{Neighbour, none_below, held, none_above}
-use Rattle.trees.specs.Trees.{Entry, Tree, empty, node, labels, slots, charges}
+use Rattle.trees.specs.Trees.{Entry, Tree, empty, node, labels, charges}
 use Rattle.trees.specs.Charges.{is_charge, all_charges}
 use Rattle.trees.specs.Heights.{height}
 use Rattle.trees.specs.Plain.{State}
