@@ -166,7 +166,7 @@ def uses_of(head):
     for h in head:
         if h.startswith("use "):
             one = " ".join(h.split())
-            if re.search(r"borrow\.(Fn|Author\.Rules)|\.(Tie|Statement|Lts|Reads|Kinds)\b|Lts-| as (tie|own|kinds|lts)\b|\.\{statement\}|Tie\.\{close\}", one):
+            if re.search(r"borrow\.Fn|\.(Tie|Statement|Lts|Reads|Kinds)\b|Lts-| as (tie|own|kinds|lts)\b|\.\{statement\}|Tie\.\{close\}", one):
                 continue
             keep.append(one)
     return keep
