@@ -2,6 +2,8 @@
 use crate::texts::Line;
 use crate::{Round, faults, texts};
 use samples::calls::{INSERT, SET_CHARGE};
+use std::io;
+use std::io::Stdout;
 use std::num::wrapping_add_usize;
 
 pub type Tally = [usize; 18];
@@ -129,144 +131,200 @@ fn updates_end(call: usize) -> usize {
 }
 
 // Prints the line of a group of calls on sound tables of the hub or the page: its shape, its way, and its counts.
-pub fn print_sequence(page: bool, shape: usize, way: usize, tally: Tally) {
+pub fn print_sequence(
+    out: Stdout,
+    page: bool,
+    shape: usize,
+    way: usize,
+    tally: Tally,
+) -> io::Result<()> {
     print_way(
+        out,
         page,
         shape,
         way,
         b": calls 0, found 1, absent 2, inserted 3, deleted 4, charged B, refused 5, most held 6, at the bound A",
         tally,
-    );
+    )
 }
 
 // Prints the line of the saves in such a group of the hub, which alone has them.
-pub fn print_saves(shape: usize, way: usize, tally: Tally) {
+pub fn print_saves(out: Stdout, shape: usize, way: usize, tally: Tally) -> io::Result<()> {
     print_way(
+        out,
         false,
         shape,
         way,
         b", saves: calls 0, saved C, refused 5, longest file D",
         tally,
-    );
+    )
 }
 
 // Prints the line of the loads of what such a group saved.
-pub fn print_loads(shape: usize, way: usize, tally: Tally) {
+pub fn print_loads(out: Stdout, shape: usize, way: usize, tally: Tally) -> io::Result<()> {
     print_way(
+        out,
         false,
         shape,
         way,
         b", loads: calls 0, saved C, longest file D, loaded E, refused 5, most held 6",
         tally,
-    );
+    )
 }
 
-fn print_way(page: bool, shape: usize, way: usize, counts: &[u8], tally: Tally) {
+fn print_way(
+    out: Stdout,
+    page: bool,
+    shape: usize,
+    way: usize,
+    counts: &[u8],
+    tally: Tally,
+) -> io::Result<()> {
     print(
+        out,
         page,
         shape,
         b"case 11|in order|reversed|stepped|drawn|prepared|respelled|charges drawn|charged|charge edges",
         way,
         counts,
         tally,
-    );
+    )
 }
 
 // Prints the line of a group of changes of one kind.
-pub fn print_damage(page: bool, shape: usize, kind: usize, tally: Tally) {
+pub fn print_damage(
+    out: Stdout,
+    page: bool,
+    shape: usize,
+    kind: usize,
+    tally: Tally,
+) -> io::Result<()> {
     print(
+        out,
         page,
         shape,
         b"one word|two words|three words|one byte|two rows|freed slots|cycles|paths|old|fields|one charge|charges",
         kind,
         b": changes 8, still sound 9, calls 0",
         tally,
-    );
+    )
 }
 
 // Prints the line of the group of other lengths, or of that of charges refused.
-pub fn print_lent(page: bool, shape: usize, group: usize, tally: Tally) {
+pub fn print_lent(
+    out: Stdout,
+    page: bool,
+    shape: usize,
+    group: usize,
+    tally: Tally,
+) -> io::Result<()> {
     print(
+        out,
         page,
         shape,
         b"other lengths|charges refused",
         group,
         b": changes 8, calls 0",
         tally,
-    );
+    )
 }
 
 // Prints the line of the saves on damaged memories of a table, or of those on memory of other lengths.
-pub fn print_refused_saves(page: bool, shape: usize, group: usize, tally: Tally) {
+pub fn print_refused_saves(
+    out: Stdout,
+    page: bool,
+    shape: usize,
+    group: usize,
+    tally: Tally,
+) -> io::Result<()> {
     print(
+        out,
         page,
         shape,
         b"damaged|other lengths",
         group,
         b", saves: changes 8, calls 0, saved C, refused 5, longest file D",
         tally,
-    );
+    )
 }
 
 // Prints the line of the saves of tables at an edge.
-pub fn print_edge_saves(shape: usize, group: usize, tally: Tally) {
+pub fn print_edge_saves(out: Stdout, shape: usize, group: usize, tally: Tally) -> io::Result<()> {
     print(
+        out,
         false,
         shape,
         b"empty|values|values|counts|full|charged",
         group,
         b", saves: calls 0, inserted 3, deleted 4, charged B, saved C, refused 5, longest file D",
         tally,
-    );
+    )
 }
 
 // Prints the line of the loads of files at an edge.
-pub fn print_edge_loads(shape: usize, group: usize, tally: Tally) {
+pub fn print_edge_loads(out: Stdout, shape: usize, group: usize, tally: Tally) -> io::Result<()> {
     print(
+        out,
         false,
         shape,
         b"empty|values|values|counts|full|charged",
         group,
         b", loads: calls 0, saved C, longest file D, loaded E, broken F, not ascending G, bytes after H, most held 6",
         tally,
-    );
+    )
 }
 
 // Prints the line of the loads of a shape's file cut short, of the same with a byte changed, or of files written out,
 // loaded into memory of other lengths.
-pub fn print_file_loads(page: bool, shape: usize, group: usize, tally: Tally) {
+pub fn print_file_loads(
+    out: Stdout,
+    page: bool,
+    shape: usize,
+    group: usize,
+    tally: Tally,
+) -> io::Result<()> {
     print(
+        out,
         page,
         shape,
         b"cut short|one byte|other lengths",
         group,
         b", loads: changes 8, calls 0, loaded E, refused 5, broken F, not ascending G, bytes after H",
         tally,
-    );
+    )
 }
 
 // Prints the line of the loads of a group of files written out.
-pub fn print_written_loads(group: usize, tally: Tally) {
+pub fn print_written_loads(out: Stdout, group: usize, tally: Tally) -> io::Result<()> {
     print(
+        out,
         false,
         NONE,
         b"taken|counts|lengths|labels|values|long numbers|order|order last|order first|ends|rosters",
         group,
         b" written out, loads: calls 0, loaded E, broken F, not ascending G, bytes after H, most held 6",
         tally,
-    );
+    )
 }
 
 // Prints a line: which index, the name of a shape, one among some names, a text in which digits stand for counts, and
 // the calls that did not agree.
-fn print(page: bool, shape: usize, names: &[u8], name: usize, counts: &[u8], tally: Tally) {
+fn print(
+    out: Stdout,
+    page: bool,
+    shape: usize,
+    names: &[u8],
+    name: usize,
+    counts: &[u8],
+    tally: Tally,
+) -> io::Result<()> {
     let mut line = [0u8; 400];
     let start = texts::put_name(&mut line, 0, b"hub, |page, ", page as usize);
     let a = put_shape(&mut line, start, shape);
     let b = texts::put_name(&mut line, a, names, name);
     let c = texts::put_counts(&mut line, b, counts, tally);
     let d = texts::put_counts(&mut line, c, b", mismatches 7", tally);
-    texts::print(&mut line, d);
+    texts::print(out, &mut line, d)
 }
 
 fn put_shape(line: &mut Line, at: usize, shape: usize) -> usize {
@@ -279,12 +337,12 @@ fn put_shape(line: &mut Line, at: usize, shape: usize) -> usize {
 }
 
 // Prints a call that did not agree: its name, its label in hexadecimal, and what differs.
-pub fn print_mismatch(call: usize, label: &[u8], fault: usize) {
+pub fn print_mismatch(out: Stdout, call: usize, label: &[u8], fault: usize) -> io::Result<()> {
     let mut line = [0u8; 400];
     let a = put_call(&mut line, call);
     let b = texts::put_hex(&mut line, a, label);
     let c = put_fault(&mut line, b, fault);
-    texts::print(&mut line, c);
+    texts::print(out, &mut line, c)
 }
 
 fn put_call(line: &mut Line, call: usize) -> usize {

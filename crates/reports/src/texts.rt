@@ -1,7 +1,8 @@
 // Lines of text, put together in a buffer.
 use crate::tallies;
 use crate::tallies::Tally;
-use libc::STDOUT_FILENO;
+use std::io;
+use std::io::{Stdout, Write};
 use std::num::wrapping_add_usize;
 
 pub type Line = [u8; 400];
@@ -100,13 +101,15 @@ pub fn put_hex(line: &mut Line, start: usize, bytes: &[u8]) -> usize {
 }
 
 // Ends the line and prints it.
-pub fn print(line: &mut Line, end: usize) {
+pub fn print(out: Stdout, line: &mut Line, end: usize) -> io::Result<()> {
     let n = put_byte(line, end, 10);
-    print_part(line, n);
+    print_part(out, line, n)
 }
 
-fn print_part(line: &[u8], n: usize) {
+fn print_part(out: Stdout, line: &[u8], n: usize) -> io::Result<()> {
+    let mut writer = out;
     if n <= line.len() {
-        io::write_all(STDOUT_FILENO, &line[..n]);
+        writer.write_all(&line[..n])?;
     }
+    Ok(())
 }
