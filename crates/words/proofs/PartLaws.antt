@@ -17,15 +17,14 @@ use Rattle.words.specs.Limits.{LimitsFit}
 use Rattle.words.specs.Parts.{LabelInside, Shows}
 
 -- the bytes from a part's start on, so many as the label has
-pub shown_at_lem : (limits : Limits) (store : Bor (List ℕ)) (k len start name : ℕ) → LabelInside limits store.now k len
+pub shown_at_lem : (limits : Limits) (store : Bor (List ℕ)) (k len start : ℕ) → LabelInside limits store.now k len
     → start ≡ part_start limits k
     → Shows limits store k len (record {
       ref_ptr = (store.ref_ptr.0, start + store.ref_ptr.1);
-      ghost_name = name;
       now = take (start + len - start) (drop start store.now);
     })
 unfolding label_at
-shown_at_lem limits store k len start name fits at =
+shown_at_lem limits store k len start fits at =
     let count : start + len - start ≡ len = omega arith in
     let inside = fits.inside in
     record {
