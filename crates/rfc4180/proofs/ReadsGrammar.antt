@@ -59,6 +59,7 @@ file_of_whole (suc most) (byte ∷ more) few whole =
         → Derived rest (records_with most rest))
         → AllWhole (record_then r (λ rest. records_with most rest))
         → Derived (byte ∷ more) (record_then r (λ rest. records_with most rest))
+    by_record no_entry_lem is later refused = elim refused [ ]
     by_record (entry x value rest) is later (AllWhole.one_more _ _ _ _ whole_rest) =
         let two = two_fields (take_fields (byte ∷ more)) x value rest is in
         let fewer : length rest < length (byte ∷ more) = rest_shorter (byte ∷ more) x value rest is in
