@@ -1,7 +1,7 @@
 #!/usr/bin/env python3
 """Turns a crate's old Proof.antt files into Invariants.antt and Answers.antt.
 
-usage: turn_proofs.py NAME [--keep]     at the top of the repository
+usage: turn_proofs.py NAME [--again]     at the top of the repository; --again writes Answers.antt anew
 
 Each Proof.antt moves to /tmp/oldproofs/<repository>/NAME/; its invariants and measures are respelled; what the check
 leaves open is answered by the old answer, respelled: places are flat now (`c.before.before.f` is `c.f`), and a goal
@@ -250,6 +250,66 @@ def invariants(crate, folder, old, fn, path):
         f.write("\n".join(comments) + ("\n" if comments else "") + "\n".join(uses) + "\n\n" + text)
 
 
+def parts_of(body, n):
+    """What stands before the tuple that a body ends with, and the tuple's parts."""
+    if not body.endswith(")"):
+        return "", []
+    depth, start = 0, None
+    for i in range(len(body) - 1, -1, -1):
+        if body[i] in ")]}":
+            depth += 1
+        if body[i] in "([{":
+            depth -= 1
+            if depth == 0:
+                start = i
+                break
+    lead = body[:start]
+    if start is None or (lead.strip() and not re.search(r"\bin\s*$", lead)):
+        return "", []
+    comps = split_tuple(body[start:])
+    while 1 < len(comps) < n and len(split_tuple(comps[-1])) > 1:
+        comps = comps[:-1] + split_tuple(comps[-1])
+    return lead, comps
+
+
+def split_tuple(text):
+    text = text.strip()
+    if not (text.startswith("(") and text.endswith(")")):
+        return [text]
+    depth, out, last = 0, [], 1
+    for i, ch in enumerate(text):
+        if ch in "([{":
+            depth += 1
+        elif ch in ")]}":
+            depth -= 1
+            if depth == 0 and i != len(text) - 1:
+                return [text]
+        elif ch == "," and depth == 1:
+            out.append(text[last:i].strip())
+            last = i + 1
+    out.append(text[last:-1].strip())
+    return out
+
+
+def clauses_of(crate, folder, goal):
+    """The names of the clauses that a goal covers, in their order."""
+    if goal.startswith("returns"):
+        name, word, crates = folder.split("/")[-1].lstrip("+"), "ensures", [crate]
+    elif "-requires" in goal:
+        name, word, crates = goal.split("-")[0], "requires", [crate] + sorted(os.listdir(os.path.join(ROOT, "crates")))
+    else:
+        return []
+    for c in crates:
+        for d, _, fs in os.walk(os.path.join(ROOT, "crates", c, "src")):
+            for f in sorted(fs):
+                t = open(os.path.join(d, f)).read()
+                m = re.search(r"fn " + re.escape(name) + r"[(<]", t)
+                if m:
+                    head = re.split(r"\n\{|\n\s*\}?\s*\n(?=pub |fn |//)", t[m.start():])[0]
+                    return re.findall(r"\n\s*" + word + r"\s+(\w+)\s*\{", "\n" + head)
+    return []
+
+
 def answers(crate, folder, old, fn, path, wanted):
     head, decls = old
     rest, done = [], []
@@ -281,6 +341,22 @@ def answers(crate, folder, old, fn, path, wanted):
         raw = fn.body(raw, None)
         helptext += raw + "\n\n"
     picked = [t for t in texts if any(w == t[0] or w.startswith(t[0] + "-clause") for w in wanted)]
+    parted = []
+    for new, d, extra, body in picked:
+        mine = [w for w in wanted if w.startswith(new + "-clause-")]
+        names_of = clauses_of(crate, folder, new)
+        lead, comps = parts_of(body, len(names_of))
+        if new in wanted or not mine or len(comps) != len(names_of):
+            if mine and new not in wanted and re.match(r"search \S+$|search \([^()]*\)$", body):
+                parted += [(w, d, extra, body) for w in mine]
+            else:
+                parted.append((new, d, extra, body))
+            continue
+        for w in mine:
+            n = w[len(new) + 8:]
+            if n in names_of:
+                parted.append((w, d, extra, lead + comps[names_of.index(n)]))
+    picked = parted
     out = []
     used = " ".join(t[3] for t in picked)
     if any(re.search(r"(?<![\w.-])" + re.escape(h["name"]) + r"(?![\w-])", used) for h in helpers):
@@ -288,7 +364,7 @@ def answers(crate, folder, old, fn, path, wanted):
     for new, d, extra, body in picked:
         unf = "\n" + d["unfolding"] if d["unfolding"] else ""
         out.append(f"pub {new} : goal.{new}{unf}\n{new} {' '.join(extra + ['c'])} = {body}")
-    left = [w for w in wanted if not any(w == t[0] or w.startswith(t[0] + "-clause") for t in picked)]
+    left = [w for w in wanted if "::" not in w and not any(w == t[0] or w.startswith(t[0] + "-clause") for t in picked)]
     if not out:
         return left
     text = "\n\n".join(out) + "\n"
@@ -296,7 +372,7 @@ def answers(crate, folder, old, fn, path, wanted):
     base = f"Rattle.{crate}.proofs.{folder.replace('/', '.')}.Goals"
     uses.append(f"use {base} as goal")
     target = os.path.join(path, "Answers.antt")
-    if os.path.exists(target):
+    if os.path.exists(target) and "--again" not in sys.argv:
         print("answers stand already:", target)
         return left
     with open(target, "w") as f:
@@ -352,7 +428,10 @@ def main():
         invariants(crate, folder, olds[folder], fn, path)
         if not os.listdir(path):
             os.rmdir(path)
-    said = rt(crate, "check")
+    if "--again" in sys.argv and os.path.exists(os.path.join(store, "said1.txt")):
+        said = open(os.path.join(store, "said1.txt")).read()
+    else:
+        said = rt(crate, "check")
     open(os.path.join(store, "said1.txt"), "w").write(said)
     goals = open_goals(said)
     print("open after invariants:", {k: len(v) for k, v in goals.items()})
