@@ -393,6 +393,69 @@ def open_goals(said):
     return out
 
 
+def parts_of(tuple_text):
+    """The components of a tuple's text `(a, (b, c))`, flattened, or None where it is none."""
+    s = tuple_text.strip()
+    if not (s.startswith("(") and s.endswith(")")):
+        return None
+    depth, parts, start = 0, [], 1
+    for i, ch in enumerate(s):
+        if ch in "([{":
+            depth += 1
+        elif ch in ")]}":
+            depth -= 1
+            if depth == 0 and i < len(s) - 1:
+                return None
+        elif ch == "," and depth == 1:
+            parts.append(s[start:i].strip())
+            start = i + 1
+    parts.append(s[start:-1].strip())
+    return parts if len(parts) > 1 else None
+
+
+def clause_answers(crate, said, wanted):
+    """Answers that are tuples where a goal now asks a record: one answer for each clause that is left."""
+    changed = False
+    for m in re.finditer(r"\./proofs/(\S+)/Answers\.antt:\d+:\d+: error: `([^`]+)`: a value of [^\n]*\n\s*is built with `record \{ ([^`]*) \}`", said):
+        folder, name = m[1], m[2]
+        fields = [f.split("=")[0].strip() for f in m[3].split(";")]
+        path = os.path.join(ROOT, "crates", crate, "proofs", folder, "Answers.antt")
+        text = open(path).read()
+        d = re.search(r"pub " + re.escape(name) + r" : goal\." + re.escape(name) + r"((?:\nunfolding[^\n]*)?)\n" + re.escape(name) + r"( [^=\n]*)=(.*?)(?=\n\n\S|\Z)", text, re.S)
+        if not d:
+            continue
+        body = d[3].strip()
+        prefix = ""
+        at = 0
+        while True:
+            parts = parts_of(body[at:])
+            if parts:
+                break
+            nxt = re.search(r"\bin\s*(?=\()", body[at:])
+            if not nxt:
+                break
+            at += nxt.end()
+        if not parts:
+            continue
+        prefix = body[:at]
+        while len(parts) < len(fields) and parts_of(parts[-1]):
+            parts = parts[:-1] + parts_of(parts[-1])
+        if len(parts) == len(fields) + 1 and parts[-1] == "tt":
+            parts.pop()
+        if len(parts) != len(fields):
+            continue
+        ask = [w[len(name) + 8:] for w in wanted.get(folder, []) if w.startswith(name + "-clause-")] or fields
+        out = []
+        for f, part in zip(fields, parts):
+            if f in ask and not re.match(r"search rules$", part):
+                g = f"{name}-clause-{f}"
+                out.append(f"pub {g} : goal.{g}{d[1]}\n{g}{d[2]}= {prefix}{part}")
+        text = text[: d.start()] + "\n\n".join(out) + text[d.end():]
+        open(path, "w").write(text)
+        changed = True
+    return changed
+
+
 def main():
     crate = sys.argv[1]
     proofs = os.path.join(ROOT, "crates", crate, "proofs")
@@ -454,6 +517,10 @@ def main():
     rt(crate, "fmt")
     said = rt(crate, "check")
     open(os.path.join(store, "said2.txt"), "w").write(said)
+    if clause_answers(crate, said, goals):
+        rt(crate, "fmt")
+        said = rt(crate, "check")
+        open(os.path.join(store, "said2.txt"), "w").write(said)
     print("\n".join(l[:400] for l in said.split("\n") if ": error" in l or l.startswith("logic=") or "not proved" in l or "no proof" in l))
 
 
