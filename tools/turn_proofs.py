@@ -87,6 +87,8 @@ class Fn:
             return ["requires"] + rest
         if fields[0] in ("args", "ranges"):
             return [fields[0]] + [norm(x) for x in rest[:1]] + rest[1:]
+        if f.endswith("_lem") and f not in self.labels and f[:-4] in self.labels:
+            f = f[:-4]
         key = tuple([f] + rest)
         for path, lab, new in self.arms:
             if len(path) > 1 and key[: len(path)] == path:

@@ -1,0 +1,7 @@
+use Rattle.sides.proofs.Mirrors.{double_turn_mirrored}
+use Rattle.sides.proofs.rotated.top_twice.Goals as goal
+
+pub returns : goal.returns
+returns c = simp double_turn_mirrored
+    (simp (c.raised.ensures, c.raised-once.ensures, c.double_turn-now.ensures)
+    at c.linked_row.ensures)
