@@ -395,7 +395,7 @@ def open_goals(said):
     return out
 
 
-def parts_of(tuple_text):
+def tuple_parts(tuple_text):
     """The components of a tuple's text `(a, (b, c))`, flattened, or None where it is none."""
     s = tuple_text.strip()
     if not (s.startswith("(") and s.endswith(")")):
@@ -430,7 +430,7 @@ def clause_answers(crate, said, wanted):
         prefix = ""
         at = 0
         while True:
-            parts = parts_of(body[at:])
+            parts = tuple_parts(body[at:])
             if parts:
                 break
             nxt = re.search(r"\bin\s*(?=\()", body[at:])
@@ -440,8 +440,8 @@ def clause_answers(crate, said, wanted):
         if not parts:
             continue
         prefix = body[:at]
-        while len(parts) < len(fields) and parts_of(parts[-1]):
-            parts = parts[:-1] + parts_of(parts[-1])
+        while len(parts) < len(fields) and tuple_parts(parts[-1]):
+            parts = parts[:-1] + tuple_parts(parts[-1])
         if len(parts) == len(fields) + 1 and parts[-1] == "tt":
             parts.pop()
         if len(parts) != len(fields):
