@@ -252,7 +252,7 @@ def invariants(crate, folder, old, fn, path):
         f.write("\n".join(comments) + ("\n" if comments else "") + "\n".join(uses) + "\n\n" + text)
 
 
-def parts_of(body, n):
+def lead_and_parts(body, n):
     """What stands before the tuple that a body ends with, and the tuple's parts."""
     if not body.endswith(")"):
         return "", []
@@ -347,7 +347,7 @@ def answers(crate, folder, old, fn, path, wanted):
     for new, d, extra, body in picked:
         mine = [w for w in wanted if w.startswith(new + "-clause-")]
         names_of = clauses_of(crate, folder, new)
-        lead, comps = parts_of(body, len(names_of))
+        lead, comps = lead_and_parts(body, len(names_of))
         if new in wanted or not mine or len(comps) != len(names_of):
             if mine and new not in wanted and re.match(r"search \S+$|search \([^()]*\)$", body):
                 parted += [(w, d, extra, body) for w in mine]
