@@ -2,7 +2,7 @@
 -- charge-rule: in a slot in use it is a charge, and may be any; in another slot it is 0.
 use mathlib.Core.Bool.{Bool, true, false, cond}
 use mathlib.Core.List.{List, [], ◌∷◌}
-use mathlib.Core.Path.{◌≡◌, refl, sym, ap, ◌∙◌}
+use mathlib.Core.Path.{◌≡◌, refl, ap, ◌∙◌}
 use Prim.Native.Nat.{ℕ, ◌≤◌}
 use lib.Dec.{eqb}
 use Rattle.types.specs.declared.Limits.{Limits}
@@ -19,8 +19,8 @@ use Rattle.trees.proofs.Charged.{charge_of_node}
 use Rattle.trees.proofs.Searched.{node_found}
 use Rattle.trees.proofs.Sorted.{between_of_ascends}
 use Rattle.trees.proofs.ValidSteps.{valid_of_charge}
-use Rattle.tables.specs.Words.{row_at, put_charge}
-use Rattle.tables.specs.Written.{Memory, free_row, chain_row, first_of, written, written_table, written_store}
+use Rattle.tables.specs.Words.{put_charge}
+use Rattle.tables.specs.Written.{free_row, chain_row, first_of, written, written_table, written_store}
 use Rattle.tables.specs.Claims.{Sound}
 use Rattle.tables.specs.MapClaims.{charge_in}
 use Rattle.written.proofs.Charged.{charge_written}

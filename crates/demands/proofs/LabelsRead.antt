@@ -39,7 +39,7 @@ module _ (limits : Limits) (m : Memory) where
   -- What is so of a node that is held in its slot is so of each node of a represented tree.
   pub of_node : (P : Entry → Type 0)
       → ((p s : Neighbour) (l r : Tree) (e : Entry) → NodeHeld limits m.table m.store p l e r s → P e)
-      → (p s : Neighbour) {t : Tree} {e : Entry} → NodeOf e t → Represents limits m.table m.store p s t → P e
+      → {e : Entry} (p s : Neighbour) {t : Tree} → NodeOf e t → Represents limits m.table m.store p s t → P e
   of_node P so p s at_root represented = so p s _ _ _ represented.0
   of_node P so p s (on_left_lem {d = d} there) represented = of_node P so p (held d.label) there represented.1
   of_node P so p s (on_right_lem {d = d} there) represented = of_node P so (held d.label) s there represented.2

@@ -9,7 +9,7 @@ use borrow.Author.Tests.{le-ltb}
 use Rattle.types.specs.declared.Limits.{Limits}
 use Rattle.types.specs.Answers.{listed}
 use Rattle.labels.specs.Neighbours.{none_below, none_above}
-use Rattle.trees.specs.Trees.{labels, slots, size}
+use Rattle.trees.specs.Trees.{slots, size}
 use Rattle.trees.specs.Heights.{Deepest}
 use Rattle.trees.specs.Plain.{State}
 use Rattle.trees.specs.Valid.{Valid}

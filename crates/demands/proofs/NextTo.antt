@@ -61,10 +61,10 @@ module _ (limits : Limits) (m : Memory) where
   -- The slot of each node of a represented tree shows its pair.
   slot_shows : (p s : Neighbour) {t : Tree} {e : Entry} → NodeOf e t → Represents limits m.table m.store p s t
       → pair_at limits m e.slot ≡ some (pair_of e)
-  slot_shows =
+  slot_shows p s there represented =
       of_node limits m (λ e. pair_at limits m e.slot ≡ some (pair_of e))
       (λ p s l r e own. pair_at_lem e.slot (pair_of e) own.low (label_read limits m own) (rw own.row)
-      (charge_read limits m own))
+      (charge_read limits m own)) p s there represented
 
   -- The slot of the node that a search passes last on a side shows its pair; 0 shows none.
   passed_shows : (side : Side) (x : Label) (t : Tree) → Represents limits m.table m.store none_below none_above t

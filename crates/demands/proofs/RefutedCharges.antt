@@ -8,7 +8,7 @@ use mathlib.Core.Logic.{◌≢◌}
 use mathlib.Core.Path.{◌≡◌, refl, sym, ap, ◌∙◌}
 use Prim.Native.Nat.{ℕ}
 use native.Mathlib.Omega.{arith}
-use lib.ListN.{length, set, length-set}
+use lib.ListN.{set, length-set}
 use Rattle.types.specs.Sizes.{hub}
 use Rattle.types.specs.Answers.{Answer, updated, refused}
 use Rattle.labels.specs.Labels.{number_of, compare_labels, compare_from, difference_place}

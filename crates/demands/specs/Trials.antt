@@ -7,7 +7,7 @@ use Rattle.types.specs.Answers.{Answer, found, absent, updated, listed, done, re
 use Rattle.labels.specs.Labels.{Label}
 use Rattle.trees.specs.Plain.{Call}
 use Rattle.tables.specs.Words.{labels_held}
-use Rattle.tables.specs.Written.{Memory, lent}
+use Rattle.tables.specs.Written.{lent}
 use Rattle.tables.specs.Steps.{go_left, StepRule, is_tie, step_at, Walk, walk_from_root}
 use Rattle.tables.specs.Outcomes.{Outcome, visits_of, places_of, walk_answer, search_outcome, update_outcome}
 use Rattle.tables.specs.Claims.{Sound, LabelFits, after_list}
