@@ -3,8 +3,8 @@
 // line.
 #![tactic(auto)]
 
-use libc::STDIN_FILENO;
+use std::io;
 
-fn main() {
-    shell::pipes::run(STDIN_FILENO);
+fn main(rt: HostRuntime) -> io::Result<()> {
+    shell::pipes::run(&mut rt.stdin(), &mut rt.stdout())
 }

@@ -1,25 +1,24 @@
 // `hubshell` on further inputs, each a file and each on a fresh table.
 #![tactic(auto)]
 
-use libc::STDOUT_FILENO;
+use std::io::Write;
+use std::{fs, io};
 
-fn main() {
-    answer(b"empty");
-    answer(b"newline");
-    answer(b"newlines");
-    answer(b"ended");
-    answer(b"unended");
+fn main(rt: HostRuntime) -> io::Result<()> {
+    answer(rt, "empty")?;
+    answer(rt, "newline")?;
+    answer(rt, "newlines")?;
+    answer(rt, "ended")?;
+    answer(rt, "unended")
 }
 
 // Prints a file's name, and what `hubshell` prints for it.
-fn answer(name: &[u8]) {
-    io::write_all(STDOUT_FILENO, name);
-    io::write_all(STDOUT_FILENO, b":\n");
-    let file = os::open_read(name);
-    if file < 0 {
-        io::write_all(STDOUT_FILENO, b"missing\n");
-        return;
+fn answer(rt: HostRuntime, name: &str) -> io::Result<()> {
+    let mut output = rt.stdout();
+    output.write_all(name.as_bytes())?;
+    output.write_all(b":\n")?;
+    match fs::open(&rt, name) {
+        Ok(mut file) => shell::pipes::run(&mut file, &mut output),
+        Err(_) => output.write_all(b"missing\n"),
     }
-    shell::pipes::run(file);
-    libc::close(file);
 }

@@ -2,8 +2,8 @@
 // answer and then the labels in ascending order, each with its slot and its value.
 #![tactic(auto)]
 
-use libc::STDIN_FILENO;
+use std::io;
 
-fn main() {
-    printing::pipes::run(STDIN_FILENO);
+fn main(rt: HostRuntime) -> io::Result<()> {
+    printing::pipes::run(&mut rt.stdin(), &mut rt.stdout())
 }

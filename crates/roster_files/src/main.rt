@@ -1,24 +1,23 @@
 // `roster` on further inputs, each a file and each on a fresh table.
 #![tactic(auto)]
 
-use libc::STDOUT_FILENO;
+use std::io::Write;
+use std::{fs, io};
 
-fn main() {
-    print(b"empty");
-    print(b"unended");
-    print(b"bare_lf");
-    print(b"respelled");
+fn main(rt: HostRuntime) -> io::Result<()> {
+    print(rt, "empty")?;
+    print(rt, "unended")?;
+    print(rt, "bare_lf")?;
+    print(rt, "respelled")
 }
 
 // Prints a file's name, and what `roster` prints for it.
-fn print(name: &[u8]) {
-    io::write_all(STDOUT_FILENO, name);
-    io::write_all(STDOUT_FILENO, b":\n");
-    let file = os::open_read(name);
-    if file < 0 {
-        io::write_all(STDOUT_FILENO, b"missing\n");
-        return;
+fn print(rt: HostRuntime, name: &str) -> io::Result<()> {
+    let mut output = rt.stdout();
+    output.write_all(name.as_bytes())?;
+    output.write_all(b":\n")?;
+    match fs::open(&rt, name) {
+        Ok(mut file) => printing::pipes::run(&mut file, &mut output),
+        Err(_) => output.write_all(b"missing\n"),
     }
-    printing::pipes::run(file);
-    libc::close(file);
 }

@@ -7,35 +7,50 @@ use plainmap::lists::Lists;
 use plans::{changes, lengths};
 use samples::numbers;
 use sheets::written;
+use std::io;
+use std::io::Stdout;
 
 // The changes of each kind.
 const TIMES: usize = 5;
 
 // Takes texts on a table that is changed in each way, where it is not sound then.
-pub fn run(image: &mut Image, map: &mut Lists) {
+pub fn run(out: Stdout, image: &mut Image, map: &mut Lists) -> io::Result<()> {
     starts::prepare(image, map, written::NOT_SOUND);
     let mut tally = tallies::none();
     let mut seed = numbers::SEED;
     for k in 0..TIMES * changes::KINDS {
         seed = numbers::next(seed);
-        let counted = change(image, map, k / TIMES, seed, tally);
+        let counted = change(out, image, map, k / TIMES, seed, tally)?;
         tally = counted;
     }
-    tallies::print_named(b"damaged", tally);
+    tallies::print_named(out, b"damaged", tally)
 }
 
-fn change(image: &Image, map: &Lists, kind: usize, seed: u64, tally: Tally) -> Tally {
+fn change(
+    out: Stdout,
+    image: &Image,
+    map: &Lists,
+    kind: usize,
+    seed: u64,
+    tally: Tally,
+) -> io::Result<Tally> {
     let mut copy = *image;
     changes::make(image, &mut copy, kind, seed);
     let changed = tallies::more(tally, CHANGES, 1);
     if audits::sound::is_sound(&copy) {
-        return tallies::more(changed, SOUND, 1);
+        return Ok(tallies::more(changed, SOUND, 1));
     }
-    take_all(&copy, map, false, changed)
+    take_all(out, &copy, map, false, changed)
 }
 
 // Takes the texts for memory that is not sound; where they are for other memory, without what is written by them.
-fn take_all(image: &Image, map: &Lists, other: bool, tally: Tally) -> Tally {
+fn take_all(
+    out: Stdout,
+    image: &Image,
+    map: &Lists,
+    other: bool,
+    tally: Tally,
+) -> io::Result<Tally> {
     let mut text = outputs::fresh();
     let mut after = tally;
     for i in 1..32usize {
@@ -44,29 +59,29 @@ fn take_all(image: &Image, map: &Lists, other: bool, tally: Tally) -> Tally {
             sheet.refusal = sheets::ANY;
         }
         if sheet.bytes != sheets::NO_TEXT {
-            let counted = takings::tried(image, map, &text, sheet, after);
+            let counted = takings::tried(out, image, map, &text, sheet, after)?;
             after = counted;
         }
     }
-    after
+    Ok(after)
 }
 
 // Takes the same texts on memory of each pair of lengths.
-pub fn run_lent(image: &mut Image, map: &mut Lists) {
+pub fn run_lent(out: Stdout, image: &mut Image, map: &mut Lists) -> io::Result<()> {
     starts::prepare(image, map, written::NOT_SOUND);
     let mut tally = tallies::none();
     for pair in 0..lengths::PAIRS {
-        let counted = lend(image, map, pair, tally);
+        let counted = lend(out, image, map, pair, tally)?;
         tally = counted;
     }
-    tallies::print_named(b"other lengths", tally);
+    tallies::print_named(out, b"other lengths", tally)
 }
 
-fn lend(image: &Image, map: &Lists, pair: usize, tally: Tally) -> Tally {
+fn lend(out: Stdout, image: &Image, map: &Lists, pair: usize, tally: Tally) -> io::Result<Tally> {
     let mut copy = *image;
     lengths::lend(&mut copy, pair);
     if memory::is_page(&copy) {
-        return tally;
+        return Ok(tally);
     }
-    take_all(&copy, map, true, tallies::more(tally, CHANGES, 1))
+    take_all(out, &copy, map, true, tallies::more(tally, CHANGES, 1))
 }

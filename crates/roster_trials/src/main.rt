@@ -13,19 +13,21 @@ mod tallies;
 
 use images::{memory, sizes};
 use sheets::written;
+use std::io;
 
-fn main() {
+fn main(rt: HostRuntime) -> io::Result<()> {
+    let out = rt.stdout();
     let mut image = memory::fresh(sizes::hub());
     let mut map = [0u16; 35910];
     for group in 0..written::NOT_SOUND {
-        groups::run_written(&mut image, &mut map, group, 1);
+        groups::run_written(out, &mut image, &mut map, group, 1)?;
     }
-    groups::run_written(&mut image, &mut map, written::ANY_BYTE, 256);
-    groups::run_small(&mut image, &mut map, 1);
-    groups::run_small(&mut image, &mut map, groups::WAYS);
-    groups::run_names(&mut image, &mut map);
-    groups::run_drawn(&mut image, &mut map, false);
-    groups::run_drawn(&mut image, &mut map, true);
-    damage::run(&mut image, &mut map);
-    damage::run_lent(&mut image, &mut map);
+    groups::run_written(out, &mut image, &mut map, written::ANY_BYTE, 256)?;
+    groups::run_small(out, &mut image, &mut map, 1)?;
+    groups::run_small(out, &mut image, &mut map, groups::WAYS)?;
+    groups::run_names(out, &mut image, &mut map)?;
+    groups::run_drawn(out, &mut image, &mut map, false)?;
+    groups::run_drawn(out, &mut image, &mut map, true)?;
+    damage::run(out, &mut image, &mut map)?;
+    damage::run_lent(out, &mut image, &mut map)
 }

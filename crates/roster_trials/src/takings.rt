@@ -11,15 +11,18 @@ use rounds::states;
 use samples::calls::{DELETE, INSERT};
 use samples::shapes;
 use sheets::Sheet;
+use std::io;
+use std::io::Stdout;
 
 // Takes a text, and compares the answer and what is left, past the lengths lent too; counts it.
 pub fn made(
+    out: Stdout,
     image: &mut Image,
     map: &mut Lists,
     text: &Output,
     sheet: Sheet,
     tally: Tally,
-) -> Tally {
+) -> io::Result<Tally> {
     let found = *image;
     let due = readings::judge(image, text, sheet.bytes, map);
     let said = calls::take(image, text, sheet.bytes);
@@ -28,16 +31,23 @@ pub fn made(
         fault = left_fault(&found, image, map, text, sheet.bytes, said);
     }
     if fault > 0 {
-        tallies::print_mismatch(text, sheet.bytes, due, said, fault);
+        tallies::print_mismatch(out, text, sheet.bytes, due, said, fault)?;
     }
-    tallies::count(tally, said, entered(said), fault)
+    Ok(tallies::count(tally, said, entered(said), fault))
 }
 
 // The same on a copy of the memory and the map.
-pub fn tried(image: &Image, map: &Lists, text: &Output, sheet: Sheet, tally: Tally) -> Tally {
+pub fn tried(
+    out: Stdout,
+    image: &Image,
+    map: &Lists,
+    text: &Output,
+    sheet: Sheet,
+    tally: Tally,
+) -> io::Result<Tally> {
     let mut copy = *image;
     let mut other = *map;
-    made(&mut copy, &mut other, text, sheet, tally)
+    made(out, &mut copy, &mut other, text, sheet, tally)
 }
 
 // The fault of an answer beside the one that is due, and beside what is written by the text.

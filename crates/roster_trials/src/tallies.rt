@@ -3,6 +3,8 @@ use images::outputs::Output;
 use images::packing;
 use reports::texts;
 use samples::numbers;
+use std::io;
+use std::io::Stdout;
 use std::num::wrapping_add_usize;
 
 pub type Tally = [usize; 18];
@@ -62,8 +64,8 @@ fn end_of(refusal: usize) -> usize {
 }
 
 // Prints the line of a group whose title is the first bytes of an array, so many.
-pub fn print(title: &Output, n: usize, tally: Tally) {
-    print_named(opening(title, n), tally);
+pub fn print(out: Stdout, title: &Output, n: usize, tally: Tally) -> io::Result<()> {
+    print_named(out, opening(title, n), tally)
 }
 
 fn opening(bytes: &[u8], n: usize) -> &[u8] {
@@ -73,7 +75,7 @@ fn opening(bytes: &[u8], n: usize) -> &[u8] {
     &bytes[..n]
 }
 
-pub fn print_named(title: &[u8], tally: Tally) {
+pub fn print_named(out: Stdout, title: &[u8], tally: Tally) -> io::Result<()> {
     let mut line = [0u8; 400];
     let a = texts::put_name(&mut line, 0, title, 0);
     let b = texts::put_counts(
@@ -88,12 +90,19 @@ pub fn print_named(title: &[u8], tally: Tally) {
         b", not sound 9, held A, full B; changes C, still sound D, mismatches E",
         tally,
     );
-    texts::print(&mut line, c);
+    texts::print(out, &mut line, c)
 }
 
 // Prints a call that did not agree: what differs, the answer that is due, the one that it gave, and the text's first
 // bytes.
-pub fn print_mismatch(text: &Output, n: usize, due: usize, said: usize, fault: usize) {
+pub fn print_mismatch(
+    out: Stdout,
+    text: &Output,
+    n: usize,
+    due: usize,
+    said: usize,
+    fault: usize,
+) -> io::Result<()> {
     let mut line = [0u8; 400];
     let a = texts::put_name(
         &mut line,
@@ -109,7 +118,7 @@ pub fn print_mismatch(text: &Output, n: usize, due: usize, said: usize, fault: u
         answers(due, said),
     );
     let c = texts::put_hex(&mut line, b, opening(text, numbers::least(n, 120)));
-    texts::print(&mut line, c);
+    texts::print(out, &mut line, c)
 }
 
 // The refusals of two answers, 0 for none, and the record of each, or how many went in.

@@ -1,16 +1,17 @@
 // `hubshell` over an input that is read: it lays out a fresh table, hands each read to the shell, and writes what the
-// shell says to it at once, to the standard output. Lines of any length take the same memory.
+// shell says to it at once, to an output. Lines of any length take the same memory.
 ghost use Rattle.std.specs.Prelude.{◌≤◌, length};
 
 use keeps::Line;
-use libc::STDOUT_FILENO;
+use std::io;
+use std::io::{Read, Write};
 
-// Answers the input behind a descriptor, up to its end.
-pub fn run(input: i32) {
+// Answers an input, up to its end.
+pub fn run<R: Read, W: Write>(input: &mut R, output: &mut W) -> io::Result<()> {
     let mut table = [0u16; 4100];
     let mut store = [0u8; 32768];
     index::layout(&mut table, &mut store);
-    answer_all(input, &mut table, &mut store);
+    answer_all(input, output, &mut table, &mut store)
 }
 
 // What a read leaves: the line that has begun, and whether more may come.
@@ -20,50 +21,71 @@ struct After {
     more: bool,
 }
 
-// Answers the whole input. A proved loop has to end, and nothing says that the input does: so the loop counts its turns
-// down, from a number that no run uses up.
-fn answer_all(input: i32, table: &mut [u16], store: &mut [u8]) {
+// Answers the whole input. A proved loop has to end, and nothing says that the input does: so the loop counts its
+// turns, up to a number that no run uses up.
+fn answer_all<R: Read, W: Write>(
+    input: &mut R,
+    output: &mut W,
+    table: &mut [u16],
+    store: &mut [u8],
+) -> io::Result<()> {
     let mut line = keeps::fresh();
-    let mut turns = u64::MAX;
-    while turns > 0 {
-        let after = read_once(input, table, store, line);
+    for _ in 0..u64::MAX {
+        let after = read_once(input, output, table, store, line)?;
         if !after.more {
-            return;
+            return Ok(());
         }
         line = after.line;
-        turns -= 1;
     }
+    Ok(())
 }
 
 // Reads once, and answers what was read, or the input's end.
-fn read_once(input: i32, table: &mut [u16], store: &mut [u8], line: Line) -> After {
+fn read_once<R: Read, W: Write>(
+    input: &mut R,
+    output: &mut W,
+    table: &mut [u16],
+    store: &mut [u8],
+    line: Line,
+) -> io::Result<After> {
     let mut chunk = [0u8; 512];
-    let got = libc::read(input, &mut chunk);
-    if got <= 0 {
-        answer_end(table, store, line);
-        return After { line, more: false };
+    let n = input.read(&mut chunk)?;
+    if n == 0 {
+        answer_end(output, table, store, line)?;
+        return Ok(After { line, more: false });
     }
-    let n = io::count(got, &chunk);
-    After {
-        line: answer_bytes(table, store, line, &chunk[..n]),
+    let begun = answer_bytes(output, table, store, line, &chunk[..n])?;
+    Ok(After {
+        line: begun,
         more: true,
-    }
+    })
 }
 
 // Writes what the shell says to the next bytes; gives the line that has begun then.
-fn answer_bytes(table: &mut [u16], store: &mut [u8], line: Line, bytes: &[u8]) -> Line
+fn answer_bytes<W: Write>(
+    output: &mut W,
+    table: &mut [u16],
+    store: &mut [u8],
+    line: Line,
+    bytes: &[u8],
+) -> io::Result<Line>
     requires { length bytes.now ≤ 512 }
 {
     let mut out = [0u8; 49152];
     let progress = crate::take(table, store, line, bytes, &mut out);
     let end = progress.end;
-    io::write_all(STDOUT_FILENO, &out[..end]);
-    progress.line
+    output.write_all(&out[..end])?;
+    Ok(progress.line)
 }
 
 // Writes what the shell says to the input's end.
-fn answer_end(table: &mut [u16], store: &mut [u8], line: Line) {
+fn answer_end<W: Write>(
+    output: &mut W,
+    table: &mut [u16],
+    store: &mut [u8],
+    line: Line,
+) -> io::Result<()> {
     let mut out = [0u8; 96];
     let end = crate::finish(table, store, line, &mut out);
-    io::write_all(STDOUT_FILENO, &out[..end]);
+    output.write_all(&out[..end])
 }

@@ -10,24 +10,27 @@ use plans::planned::ANY_REFUSAL;
 use reports::tallies;
 use reports::tallies::{CHANGES, Tally};
 use samples::{numbers, shapes};
+use std::io;
+use std::io::Stdout;
 
 // Makes the loads for each shape, and prints two lines for each; the hub's index alone has them.
-pub fn run(image: &Image) {
+pub fn run(out: Stdout, image: &Image) -> io::Result<()> {
     if memory::is_page(image) {
-        return;
+        return Ok(());
     }
     for i in 0..bytes::SHAPES {
-        run_shape(image, bytes::shape(i));
+        run_shape(out, image, bytes::shape(i))?;
     }
+    Ok(())
 }
 
-fn run_shape(image: &Image, shape: usize) {
+fn run_shape(out: Stdout, image: &Image, shape: usize) -> io::Result<()> {
     let mut file = outputs::fresh();
     let n = write(&mut file, shape);
-    let cut = cut_short(image, &file, n);
-    tallies::print_file_loads(false, shape, 0, cut);
-    let changed = change_each(image, &file, n);
-    tallies::print_file_loads(false, shape, 1, changed);
+    let cut = cut_short(out, image, &file, n)?;
+    tallies::print_file_loads(out, false, shape, 0, cut)?;
+    let changed = change_each(out, image, &file, n)?;
+    tallies::print_file_loads(out, false, shape, 1, changed)
 }
 
 // Writes the file of the first labels of a shape; its length.
@@ -48,38 +51,45 @@ fn hold(map: &mut Lists, shape: usize, k: usize) {
 }
 
 // Loads the file at each length up to its own, and one more.
-fn cut_short(image: &Image, file: &Output, n: usize) -> Tally {
+fn cut_short(out: Stdout, image: &Image, file: &Output, n: usize) -> io::Result<Tally> {
     let mut tally = tallies::none();
     let end = std::num::wrapping_add_usize(n, 2);
     for i in 0..end {
         let changed = tallies::one_more_if(tally, CHANGES, i != n);
-        let counted = loads::tried(image, file, i, ANY_REFUSAL, changed);
+        let counted = loads::tried(out, image, file, i, ANY_REFUSAL, changed)?;
         tally = counted;
     }
-    tally
+    Ok(tally)
 }
 
 // Loads the file with each byte changed in each way.
-fn change_each(image: &Image, file: &Output, n: usize) -> Tally {
+fn change_each(out: Stdout, image: &Image, file: &Output, n: usize) -> io::Result<Tally> {
     let mut tally = tallies::none();
     let end = bytes::WAYS * (n % outputs::ALL);
     for k in 0..end {
-        let counted = change(image, file, n, k, tally);
+        let counted = change(out, image, file, n, k, tally)?;
         tally = counted;
     }
-    tally
+    Ok(tally)
 }
 
 // Loads the file with one byte changed, where it is another then.
-fn change(image: &Image, file: &Output, n: usize, k: usize, tally: Tally) -> Tally {
+fn change(
+    out: Stdout,
+    image: &Image,
+    file: &Output,
+    n: usize,
+    k: usize,
+    tally: Tally,
+) -> io::Result<Tally> {
     let at = k / bytes::WAYS;
     let mut copy = *file;
     put(&mut copy, at, k % bytes::WAYS);
     if outputs::same(file, &copy) {
-        return tally;
+        return Ok(tally);
     }
     let changed = tallies::one_more(tally, CHANGES);
-    loads::tried(image, &copy, n, ANY_REFUSAL, changed)
+    loads::tried(out, image, &copy, n, ANY_REFUSAL, changed)
 }
 
 fn put(file: &mut Output, at: usize, way: usize) {

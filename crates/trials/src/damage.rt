@@ -10,81 +10,106 @@ use reports::tallies::{CALLS, CHANGES, MISMATCHES, SOUND, Tally};
 use samples::calls::SET_CHARGE;
 use samples::shapes::Label;
 use samples::{charges, numbers, shapes};
+use std::io;
+use std::io::Stdout;
 use std::num::wrapping_add_usize;
 
 // The calls that are made on memory with a label: each by its number; the hub's, which sets a charge, once more.
 pub const ALL_CALLS: usize = 10;
 
 // Makes the changes of each kind on a table of a shape, and prints a line for each, and for the saves of all.
-pub fn run(image: &Image, shape: usize) {
+pub fn run(out: Stdout, image: &Image, shape: usize) -> io::Result<()> {
     let mut saved = tallies::none();
     for kind in 0..KINDS {
-        run_kind(image, shape, kind, &mut saved);
+        run_kind(out, image, shape, kind, &mut saved)?;
     }
     if !memory::is_page(image) {
-        tallies::print_refused_saves(false, shape, 0, saved);
+        tallies::print_refused_saves(out, false, shape, 0, saved)?;
     }
+    Ok(())
 }
 
-fn run_kind(image: &Image, shape: usize, kind: usize, saved: &mut Tally) {
+fn run_kind(
+    out: Stdout,
+    image: &Image,
+    shape: usize,
+    kind: usize,
+    saved: &mut Tally,
+) -> io::Result<()> {
     if changes::times(shape, kind) > 0 {
-        let tally = group(image, shape, kind, saved);
-        tallies::print_damage(memory::is_page(image), shape, kind, tally);
+        let tally = group(out, image, shape, kind, saved)?;
+        tallies::print_damage(out, memory::is_page(image), shape, kind, tally)?;
     }
+    Ok(())
 }
 
-fn group(image: &Image, shape: usize, kind: usize, saved: &mut Tally) -> Tally {
+fn group(
+    out: Stdout,
+    image: &Image,
+    shape: usize,
+    kind: usize,
+    saved: &mut Tally,
+) -> io::Result<Tally> {
     let mut tally = tallies::none();
     let mut seed = numbers::SEED;
     let n = changes::times(shape, kind);
     for i in 0..n {
         seed = numbers::next(seed);
-        let counted = change(image, shape, kind, seed, tally, saved);
+        let counted = change(out, image, shape, kind, seed, tally, saved)?;
         tally = counted;
     }
-    tally
+    Ok(tally)
 }
 
 // Draws a change until it is one, at most 20 times.
 fn change(
+    out: Stdout,
     image: &Image,
     shape: usize,
     kind: usize,
     seed: u64,
     tally: Tally,
     saved: &mut Tally,
-) -> Tally {
+) -> io::Result<Tally> {
     let mut after = tally;
     let mut draw = seed;
     for i in 0..20usize {
         if tallies::get(after, CHANGES) == tallies::get(tally, CHANGES) {
-            let counted = drawn(image, shape, kind, draw, tally, saved);
+            let counted = drawn(out, image, shape, kind, draw, tally, saved)?;
             after = counted;
             draw = numbers::next(draw);
         }
     }
-    after
+    Ok(after)
 }
 
 // Makes a change on a copy of the memory; where the copy differs, counts it and makes every call on it.
 fn drawn(
+    out: Stdout,
     image: &Image,
     shape: usize,
     kind: usize,
     seed: u64,
     tally: Tally,
     saved: &mut Tally,
-) -> Tally {
+) -> io::Result<Tally> {
     let mut copy = *image;
     if !changes::make(image, &mut copy, kind, seed) {
-        return tally;
+        return Ok(tally);
     }
-    saves::on_damaged(&copy, seed, saved);
-    every(&copy, shape, kind, seed, tally)
+    saves::on_damaged(out, &copy, seed, saved)?;
+    every(out, &copy, shape, kind, seed, tally)
 }
 
 // Makes every call but a save on changed memory, with a label and a slot, and counts.
-fn every(image: &Image, shape: usize, kind: usize, seed: u64, tally: Tally) -> Tally {
+fn every(
+    out: Stdout,
+    image: &Image,
+    shape: usize,
+    kind: usize,
+    seed: u64,
+    tally: Tally,
+) -> io::Result<Tally> {
     let mut label = [0u8; 66];
     let width = memory::entry(image, memory::WIDTH);
     let n = write_label(&mut label, width, shape, kind, seed);
@@ -92,7 +117,7 @@ fn every(image: &Image, shape: usize, kind: usize, seed: u64, tally: Tally) -> T
     let slot = numbers::below(numbers::next(seed), numbers::least(80, slots));
     let changed = tallies::one_more(tally, CHANGES);
     let counted = tallies::one_more_if(changed, SOUND, audits::sound::is_sound(image));
-    calls(image, shapes::opening(&label, n), slot, seed, counted)
+    calls(out, image, shapes::opening(&label, n), slot, seed, counted)
 }
 
 // Writes a label of the shape, and for an old table one that fits it; gives its length.
@@ -123,43 +148,59 @@ pub fn calls_of(image: &Image) -> usize {
     ALL_CALLS
 }
 
-fn calls(image: &Image, label: &[u8], slot: usize, seed: u64, tally: Tally) -> Tally {
+fn calls(
+    out: Stdout,
+    image: &Image,
+    label: &[u8],
+    slot: usize,
+    seed: u64,
+    tally: Tally,
+) -> io::Result<Tally> {
     let mut after = tally;
     let n = calls_of(image);
     for k in 0..n {
-        let next = call(image, k, label, slot, seed, after);
+        let next = call(out, image, k, label, slot, seed, after)?;
         after = next;
     }
-    after
+    Ok(after)
 }
 
 // Makes call `k` with a slot; the last two set a right charge and a wrong one.
-pub fn call(image: &Image, k: usize, label: &[u8], slot: usize, seed: u64, tally: Tally) -> Tally {
+pub fn call(
+    out: Stdout,
+    image: &Image,
+    k: usize,
+    label: &[u8],
+    slot: usize,
+    seed: u64,
+    tally: Tally,
+) -> io::Result<Tally> {
     if k < SET_CHARGE {
-        return tried(image, k, label, slot, ANY_REFUSAL, tally);
+        return tried(out, image, k, label, slot, ANY_REFUSAL, tally);
     }
     let draw = numbers::mixed_seed(seed, k);
     let charge = match k {
         SET_CHARGE => charges::right(draw),
         _ => charges::wrong(draw),
     };
-    tried(image, SET_CHARGE, label, charge, ANY_REFUSAL, tally)
+    tried(out, image, SET_CHARGE, label, charge, ANY_REFUSAL, tally)
 }
 
 // Makes a call that is to have a refusal's number, with a slot, a value or a charge, and counts it; where it has a
 // fault it is printed.
 pub fn tried(
+    out: Stdout,
     image: &Image,
     call: usize,
     label: &[u8],
     number: usize,
     refusal: usize,
     tally: Tally,
-) -> Tally {
+) -> io::Result<Tally> {
     let round = rounds::tried(image, call, label, number);
     let fault = sequences::fault_of(round, refusal);
     if fault > 0 {
-        tallies::print_mismatch(call, label, fault);
+        tallies::print_mismatch(out, call, label, fault)?;
     }
-    tallies::one_more_if(tallies::one_more(tally, CALLS), MISMATCHES, fault > 0)
+    Ok(tallies::one_more_if(tallies::one_more(tally, CALLS), MISMATCHES, fault > 0))
 }

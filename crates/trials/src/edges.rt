@@ -7,37 +7,46 @@ use plans::planned::Planned;
 use reports::tallies;
 use reports::tallies::{CHANGES, Tally};
 use samples::shapes;
+use std::io;
+use std::io::Stdout;
 
 // Makes the calls on a table that holds a roster but for its first label; the hub's index alone has them.
-pub fn run(image: &Image) {
+pub fn run(out: Stdout, image: &Image) -> io::Result<()> {
     if memory::is_page(image) {
-        return;
+        return Ok(());
     }
-    let tally = made(image);
-    tallies::print_lent(false, shapes::ROSTER, 1, tally);
+    let tally = made(out, image)?;
+    tallies::print_lent(out, false, shapes::ROSTER, 1, tally)
 }
 
-fn made(image: &Image) -> Tally {
+fn made(out: Stdout, image: &Image) -> io::Result<Tally> {
     let mut tally = tallies::none();
     for k in edges::CALLS..edges::MEMORIES * edges::CALLS {
-        let next = on_memory(image, k / edges::CALLS, k % edges::CALLS, tally);
+        let next = on_memory(out, image, k / edges::CALLS, k % edges::CALLS, tally)?;
         tally = next;
     }
-    tally
+    Ok(tally)
 }
 
-fn on_memory(image: &Image, state: usize, i: usize, tally: Tally) -> Tally {
+fn on_memory(
+    out: Stdout,
+    image: &Image,
+    state: usize,
+    i: usize,
+    tally: Tally,
+) -> io::Result<Tally> {
     let mut copy = *image;
     edges::make(&mut copy, state);
     let changed = tallies::one_more_if(tally, CHANGES, !memory::same(image, &copy));
-    call(&copy, edges::call(state, i), changed)
+    call(out, &copy, edges::call(state, i), changed)
 }
 
-fn call(image: &Image, planned: Planned, tally: Tally) -> Tally {
+fn call(out: Stdout, image: &Image, planned: Planned, tally: Tally) -> io::Result<Tally> {
     let mut label = [0u8; 66];
     let width = memory::entry(image, memory::WIDTH);
     let n = shapes::write(&mut label, width, planned.shape, planned.label);
     damage::tried(
+        out,
         image,
         planned.call,
         shapes::opening(&label, n),

@@ -11,110 +11,140 @@ use reports::tallies::Tally;
 use reports::{Round, faults, tallies};
 use samples::calls::{DELETE, INSERT, SET_CHARGE};
 use samples::charges;
+use std::io;
+use std::io::Stdout;
 
 // Makes the tables of each group, and prints two lines for each; the hub's index alone has them.
-pub fn run(image: &mut Image, map: &mut Lists) {
+pub fn run(out: Stdout, image: &mut Image, map: &mut Lists) -> io::Result<()> {
     if memory::is_page(image) {
-        return;
+        return Ok(());
     }
     for group in 0..files::GROUPS {
-        run_group(image, map, group);
+        run_group(out, image, map, group)?;
     }
+    Ok(())
 }
 
-fn run_group(image: &mut Image, map: &mut Lists, group: usize) {
+fn run_group(out: Stdout, image: &mut Image, map: &mut Lists, group: usize) -> io::Result<()> {
     let mut tally = tallies::none();
     let mut loaded = tallies::none();
     let n = files::tables(group);
     for i in 0..n {
-        let counted = table(image, map, files::table(group, i), tally);
+        let counted = table(out, image, map, files::table(group, i), tally)?;
         tally = counted;
-        loads::at_edge(image, map, &mut loaded);
+        loads::at_edge(out, image, map, &mut loaded)?;
     }
-    print(files::shape(group), group, tally, loaded);
+    print(out, files::shape(group), group, tally, loaded)
 }
 
-fn print(shape: usize, group: usize, saved: Tally, loaded: Tally) {
-    tallies::print_edge_saves(shape, group, saved);
-    tallies::print_edge_loads(shape, group, loaded);
+fn print(out: Stdout, shape: usize, group: usize, saved: Tally, loaded: Tally) -> io::Result<()> {
+    tallies::print_edge_saves(out, shape, group, saved)?;
+    tallies::print_edge_loads(out, shape, group, loaded)
 }
 
 // Makes a table, and saves it into an output of each length.
-fn table(image: &mut Image, map: &mut Lists, edge: Edge, tally: Tally) -> Tally {
+fn table(
+    out: Stdout,
+    image: &mut Image,
+    map: &mut Lists,
+    edge: Edge,
+    tally: Tally,
+) -> io::Result<Tally> {
     sequences::empty(image, map);
-    let filled = each(image, map, INSERT, edge, tally);
+    let filled = each(out, image, map, INSERT, edge, tally)?;
     let then = edge.then;
     let ended = match then {
-        DELETE => each(image, map, DELETE, edge, filled),
-        SET_CHARGE => charge_each(image, map, edge, filled),
+        DELETE => each(out, image, map, DELETE, edge, filled)?,
+        SET_CHARGE => charge_each(out, image, map, edge, filled)?,
         _ => filled,
     };
-    save_all(image, map, edge.bytes, ended)
+    save_all(out, image, map, edge.bytes, ended)
 }
 
 // Makes a call on each label of a table.
-fn each(image: &mut Image, map: &mut Lists, call: usize, edge: Edge, tally: Tally) -> Tally {
+fn each(
+    out: Stdout,
+    image: &mut Image,
+    map: &mut Lists,
+    call: usize,
+    edge: Edge,
+    tally: Tally,
+) -> io::Result<Tally> {
     let mut after = tally;
     let n = edge.labels;
     for k in 0..n {
-        let counted = on_label(image, map, call, edge, k, after);
+        let counted = on_label(out, image, map, call, edge, k, after)?;
         after = counted;
     }
-    after
+    Ok(after)
 }
 
 // Makes a call on label `k` of a table, with its value or a charge of its own, that is not to be refused.
 fn on_label(
+    out: Stdout,
     image: &mut Image,
     map: &mut Lists,
     call: usize,
     edge: Edge,
     k: usize,
     tally: Tally,
-) -> Tally {
+) -> io::Result<Tally> {
     let mut number = edge.value;
     if call == SET_CHARGE {
         number = charges::own(k);
     }
     let planned = planned::named(call, edge.shape, k, 0);
-    sequences::numbered(image, map, planned, number, tally)
+    sequences::numbered(out, image, map, planned, number, tally)
 }
 
 // Gives each label a charge, and saves the table after each: the output is as it was before all.
-fn charge_each(image: &mut Image, map: &mut Lists, edge: Edge, tally: Tally) -> Tally {
+fn charge_each(
+    out: Stdout,
+    image: &mut Image,
+    map: &mut Lists,
+    edge: Edge,
+    tally: Tally,
+) -> io::Result<Tally> {
     let mut before = outputs::fresh();
     let round = rounds::saves::into(image, map, &mut before, outputs::ALL);
-    let mut after = saves::count(round, tally);
+    let mut after = saves::count(out, round, tally)?;
     let n = edge.labels;
     for k in 0..n {
-        let counted = charge(image, map, edge, k, &before, after);
+        let counted = charge(out, image, map, edge, k, &before, after)?;
         after = counted;
     }
-    after
+    Ok(after)
 }
 
 fn charge(
+    out: Stdout,
     image: &mut Image,
     map: &mut Lists,
     edge: Edge,
     k: usize,
     before: &Output,
     tally: Tally,
-) -> Tally {
-    let charged = on_label(image, map, SET_CHARGE, edge, k, tally);
-    saves::count(rounds::saves::again(image, map, before), charged)
+) -> io::Result<Tally> {
+    let charged = on_label(out, image, map, SET_CHARGE, edge, k, tally)?;
+    saves::count(out, rounds::saves::again(image, map, before), charged)
 }
 
 // Makes a save into an output of each length, where the file is to have so many bytes.
-fn save_all(image: &Image, map: &Lists, bytes: usize, tally: Tally) -> Tally {
+fn save_all(
+    out: Stdout,
+    image: &Image,
+    map: &Lists,
+    bytes: usize,
+    tally: Tally,
+) -> io::Result<Tally> {
     let mut after = tally;
     for i in 0..lengths::OUTPUTS {
         let room = lengths::output(i, bytes);
         let round = as_named(rounds::saves::made(image, map, room), bytes, room);
-        let counted = saves::count(round, after);
+        let counted = saves::count(out, round, after)?;
         after = counted;
     }
-    after
+    Ok(after)
 }
 
 // A save with its fault, where it is not refused by 17 or does not write as many bytes as its file is to have.

@@ -9,36 +9,40 @@ use reports::tallies;
 use reports::tallies::{CHANGES, Tally};
 use samples::calls::LISTING;
 use samples::{numbers, shapes};
+use std::io;
+use std::io::Stdout;
 
 // A slot in use: the roster's second label.
 const SLOT: usize = 2;
 
-pub fn run(image: &Image) {
-    let tally = listings(image, lend(image));
-    tallies::print_lent(memory::is_page(image), shapes::ROSTER, 0, tally);
+pub fn run(out: Stdout, image: &Image) -> io::Result<()> {
+    let lent = lend(out, image)?;
+    let tally = listings(out, image, lent)?;
+    tallies::print_lent(out, memory::is_page(image), shapes::ROSTER, 0, tally)
 }
 
 // All calls on memory of each pair of lengths, with labels of each length.
-fn lend(image: &Image) -> Tally {
+fn lend(out: Stdout, image: &Image) -> io::Result<Tally> {
     let mut tally = tallies::none();
     for k in 0..ALL_CALLS * lengths::PAIRS * lengths::LABELS {
-        let next = lent(image, k, tally);
+        let next = lent(out, image, k, tally)?;
         tally = next;
     }
-    tally
+    Ok(tally)
 }
 
-fn lent(image: &Image, k: usize, tally: Tally) -> Tally {
+fn lent(out: Stdout, image: &Image, k: usize, tally: Tally) -> io::Result<Tally> {
     let label = [104u8; 66];
     let mut copy = *image;
     lengths::lend(&mut copy, k / ALL_CALLS % lengths::PAIRS);
     if k % ALL_CALLS >= damage::calls_of(&copy) {
-        return tally;
+        return Ok(tally);
     }
     let width = memory::entry(image, memory::WIDTH);
     let n = lengths::label(k / ALL_CALLS / lengths::PAIRS, width);
     let seed = numbers::mixed_seed(numbers::SEED, k);
     damage::call(
+        out,
         &copy,
         k % ALL_CALLS,
         shapes::opening(&label, n),
@@ -54,19 +58,19 @@ fn counted(image: &Image, copy: &Image, tally: Tally) -> Tally {
 }
 
 // Listings into lists of each length.
-fn listings(image: &Image, tally: Tally) -> Tally {
+fn listings(out: Stdout, image: &Image, tally: Tally) -> io::Result<Tally> {
     let mut after = tally;
     for i in 0..lengths::ROOMS {
-        let next = listing(image, i, after);
+        let next = listing(out, image, i, after)?;
         after = next;
     }
-    after
+    Ok(after)
 }
 
-fn listing(image: &Image, i: usize, tally: Tally) -> Tally {
+fn listing(out: Stdout, image: &Image, i: usize, tally: Tally) -> io::Result<Tally> {
     let mut copy = *image;
     let room = lengths::room(i, memory::word(image, memory::HELD));
     memory::put(&mut copy, memory::ROOM, room);
     let counted = counted(image, &copy, tally);
-    damage::tried(&copy, LISTING, b"", 0, ANY_REFUSAL, counted)
+    damage::tried(out, &copy, LISTING, b"", 0, ANY_REFUSAL, counted)
 }

@@ -10,6 +10,8 @@ use reports::tallies::Tally;
 use reports::{Round, tallies};
 use samples::calls::LOAD;
 use samples::numbers;
+use std::io;
+use std::io::Stdout;
 
 // One of so many calls on a sound table, that with this remainder, is followed by a save, a load and a save.
 const EVERY: usize = 64;
@@ -17,79 +19,113 @@ const EVERY: usize = 64;
 const TURN: usize = 47;
 
 // Saves, loads and saves after call `i` of a sequence, where it is its turn.
-pub fn after(image: &Image, map: &Lists, i: usize, tally: &mut Tally) {
+pub fn after(
+    out: Stdout,
+    image: &Image,
+    map: &Lists,
+    i: usize,
+    tally: &mut Tally,
+) -> io::Result<()> {
     if memory::is_page(image) | (i % EVERY != TURN) {
-        return;
+        return Ok(());
     }
-    let counted = saved(image, map, *tally);
+    let counted = saved(out, image, map, *tally)?;
     *tally = counted;
+    Ok(())
 }
 
 // Saves a table, loads the file into other memory, and saves that.
-pub fn saved(image: &Image, map: &Lists, tally: Tally) -> Tally {
+pub fn saved(out: Stdout, image: &Image, map: &Lists, tally: Tally) -> io::Result<Tally> {
     let mut file = outputs::fresh();
     let round = rounds::saves::into(image, map, &mut file, outputs::ALL);
-    let counted = saves::count(round, tally);
-    saved_again(image, &file, round.written, counted)
+    let counted = saves::count(out, round, tally)?;
+    saved_again(out, image, &file, round.written, counted)
 }
 
 // Loads a file, which is to be taken, and saves it: the file is the same.
-fn saved_again(image: &Image, file: &Output, n: usize, tally: Tally) -> Tally {
+fn saved_again(
+    out: Stdout,
+    image: &Image,
+    file: &Output,
+    n: usize,
+    tally: Tally,
+) -> io::Result<Tally> {
     let mut copy = *image;
     let mut map = [0u16; 35910];
-    let loaded = into(&mut copy, file, n, 0, &mut map, tally);
-    saves::count(rounds::saves::again(&copy, &map, file), loaded)
+    let loaded = into(out, &mut copy, file, n, 0, &mut map, tally)?;
+    saves::count(out, rounds::saves::again(&copy, &map, file), loaded)
 }
 
 // Loads the first bytes of a file, so many, which is to have a refusal's number, into memory of an image's lengths full
 // of other things; counts it, and leaves what is loaded, and the map of that.
 fn into(
+    out: Stdout,
     image: &mut Image,
     file: &Output,
     n: usize,
     refusal: usize,
     map: &mut Lists,
     tally: Tally,
-) -> Tally {
+) -> io::Result<Tally> {
     memory::spoil(image, numbers::mixed(n, refusal));
     let round = rounds::loads::made(image, file, n, map);
-    count(round, refusal, plainmap::held(map), tally)
+    count(out, round, refusal, plainmap::held(map), tally)
 }
 
 // Counts a load that was to have a refusal's number; where it has a fault it is printed.
-fn count(round: Round, refusal: usize, held: usize, tally: Tally) -> Tally {
+fn count(
+    out: Stdout,
+    round: Round,
+    refusal: usize,
+    held: usize,
+    tally: Tally,
+) -> io::Result<Tally> {
     let mut named = round;
     named.fault = sequences::fault_of(round, refusal);
     if named.fault > 0 {
-        tallies::print_mismatch(LOAD, b"", named.fault);
+        tallies::print_mismatch(out, LOAD, b"", named.fault)?;
     }
-    tallies::count(tally, LOAD, named, held)
+    Ok(tallies::count(tally, LOAD, named, held))
 }
 
 // Loads a file of so many bytes, which is to have a refusal's number; the image stays.
-pub fn tried(image: &Image, file: &Output, n: usize, refusal: usize, tally: Tally) -> Tally {
+pub fn tried(
+    out: Stdout,
+    image: &Image,
+    file: &Output,
+    n: usize,
+    refusal: usize,
+    tally: Tally,
+) -> io::Result<Tally> {
     let mut copy = *image;
     let mut map = [0u16; 35910];
-    into(&mut copy, file, n, refusal, &mut map, tally)
+    into(out, &mut copy, file, n, refusal, &mut map, tally)
 }
 
 // Loads the file of a table, then of its bytes one less, one more, far more, and none.
-pub fn at_edge(image: &Image, map: &Lists, tally: &mut Tally) {
+pub fn at_edge(out: Stdout, image: &Image, map: &Lists, tally: &mut Tally) -> io::Result<()> {
     let mut file = outputs::fresh();
     let n = plainmap::files::write(&mut file, map);
-    let again = saved(image, map, *tally);
-    let counted = other_ends(image, &file, n, again);
+    let again = saved(out, image, map, *tally)?;
+    let counted = other_ends(out, image, &file, n, again)?;
     *tally = counted;
+    Ok(())
 }
 
-fn other_ends(image: &Image, file: &Output, n: usize, tally: Tally) -> Tally {
+fn other_ends(
+    out: Stdout,
+    image: &Image,
+    file: &Output,
+    n: usize,
+    tally: Tally,
+) -> io::Result<Tally> {
     let mut after = tally;
     for i in 1..lengths::OUTPUTS {
         let end = lengths::output(i, n);
-        let counted = tried(image, file, end, end_refusal(end, n), after);
+        let counted = tried(out, image, file, end, end_refusal(end, n), after)?;
         after = counted;
     }
-    after
+    Ok(after)
 }
 
 // The number that refuses a file cut short or followed by other bytes.

@@ -19,45 +19,50 @@ use images::{memory, sizes};
 use plainmap::lists::Lists;
 use plans::groups;
 use plans::groups::Plan;
+use std::io;
+use std::io::Stdout;
 
-fn main() {
-    run_index(sizes::hub());
-    run_index(sizes::page());
+fn main(rt: HostRuntime) -> io::Result<()> {
+    let out = rt.stdout();
+    run_index(out, sizes::hub())?;
+    run_index(out, sizes::page())
 }
 
 // All groups on the index of these sizes.
-fn run_index(sizes: Sizes) {
+fn run_index(out: Stdout, sizes: Sizes) -> io::Result<()> {
     let mut image = memory::fresh(sizes);
     let mut map = [0u16; 35910];
-    run(&mut image, &mut map);
-    lent::run(&image);
-    edges::run(&image);
-    saves::run_lent(&image);
-    written::run_lent(&image);
-    files::run(&mut image, &mut map);
-    run_files(&image);
+    run(out, &mut image, &mut map)?;
+    lent::run(out, &image)?;
+    edges::run(out, &image)?;
+    saves::run_lent(out, &image)?;
+    written::run_lent(out, &image)?;
+    files::run(out, &mut image, &mut map)?;
+    run_files(out, &image)
 }
 
 // The groups of files that no table was saved as.
-fn run_files(image: &Image) {
-    cuts::run(image);
-    written::run(image);
+fn run_files(out: Stdout, image: &Image) -> io::Result<()> {
+    cuts::run(out, image)?;
+    written::run(out, image)
 }
 
-fn run(image: &mut Image, map: &mut Lists) {
+fn run(out: Stdout, image: &mut Image, map: &mut Lists) -> io::Result<()> {
     for group in 0..groups::GROUPS {
         let plan = groups::plan_of(group, memory::entry(image, memory::SLOTS));
-        run_plan(image, map, plan);
+        run_plan(out, image, map, plan)?;
     }
+    Ok(())
 }
 
 // A group, and the damaged memories of a table that it prepared; nothing where the index does not have its calls.
-fn run_plan(image: &mut Image, map: &mut Lists, plan: Plan) {
+fn run_plan(out: Stdout, image: &mut Image, map: &mut Lists, plan: Plan) -> io::Result<()> {
     if groups::is_hubs(plan) & memory::is_page(image) {
-        return;
+        return Ok(());
     }
-    sequences::run(image, map, plan);
+    sequences::run(out, image, map, plan)?;
     if plan.way == groups::PREPARED {
-        damage::run(image, plan.shape);
+        damage::run(out, image, plan.shape)?;
     }
+    Ok(())
 }

@@ -10,18 +10,21 @@ use reports::tallies::Tally;
 use reports::{Round, faults, tallies};
 use samples::calls::SET_CHARGE;
 use samples::{numbers, shapes};
+use std::io;
+use std::io::Stdout;
 
 // Makes a group's calls on an empty index and map, and prints its line.
-pub fn run(image: &mut Image, map: &mut Lists, plan: Plan) {
+pub fn run(out: Stdout, image: &mut Image, map: &mut Lists, plan: Plan) -> io::Result<()> {
     empty(image, map);
     let mut saved = tallies::none();
     let mut loaded = tallies::none();
-    let tally = made(image, map, plan, &mut saved, &mut loaded);
-    tallies::print_sequence(memory::is_page(image), plan.shape, plan.way, tally);
+    let tally = made(out, image, map, plan, &mut saved, &mut loaded)?;
+    tallies::print_sequence(out, memory::is_page(image), plan.shape, plan.way, tally)?;
     if !memory::is_page(image) {
-        tallies::print_saves(plan.shape, plan.way, saved);
-        tallies::print_loads(plan.shape, plan.way, loaded);
+        tallies::print_saves(out, plan.shape, plan.way, saved)?;
+        tallies::print_loads(out, plan.shape, plan.way, loaded)?;
     }
+    Ok(())
 }
 
 // Empties an index and a map.
@@ -35,49 +38,64 @@ pub fn empty(image: &mut Image, map: &mut Lists) {
 }
 
 fn made(
+    out: Stdout,
     image: &mut Image,
     map: &mut Lists,
     plan: Plan,
     saved: &mut Tally,
     loaded: &mut Tally,
-) -> Tally {
+) -> io::Result<Tally> {
     let mut tally = tallies::none();
     let mut seed = numbers::SEED;
     let n = groups::calls(plan);
     for i in 0..n {
         seed = numbers::next(seed);
-        let counted = call(image, map, groups::call(plan, i, seed), tally);
+        let counted = call(out, image, map, groups::call(plan, i, seed), tally)?;
         tally = counted;
         seed = numbers::next(seed);
-        after(image, map, i, saved, loaded);
+        after(out, image, map, i, saved, loaded)?;
     }
-    tally
+    Ok(tally)
 }
 
 // What follows call `i`: a save, and a load of one.
-fn after(image: &Image, map: &Lists, i: usize, saved: &mut Tally, loaded: &mut Tally) {
-    saves::after(image, map, i, saved);
-    loads::after(image, map, i, loaded);
+fn after(
+    out: Stdout,
+    image: &Image,
+    map: &Lists,
+    i: usize,
+    saved: &mut Tally,
+    loaded: &mut Tally,
+) -> io::Result<()> {
+    saves::after(out, image, map, i, saved)?;
+    loads::after(out, image, map, i, loaded)
 }
 
-fn call(image: &mut Image, map: &mut Lists, planned: Planned, tally: Tally) -> Tally {
+fn call(
+    out: Stdout,
+    image: &mut Image,
+    map: &mut Lists,
+    planned: Planned,
+    tally: Tally,
+) -> io::Result<Tally> {
     let number = number_of(planned, tallies::get(tally, tallies::INSERTED));
-    numbered(image, map, planned, number, tally)
+    numbered(out, image, map, planned, number, tally)
 }
 
 // Makes a call with a value or a charge, and counts it.
 pub fn numbered(
+    out: Stdout,
     image: &mut Image,
     map: &mut Lists,
     planned: Planned,
     number: usize,
     tally: Tally,
-) -> Tally {
+) -> io::Result<Tally> {
     let mut label = [0u8; 66];
     let width = memory::entry(image, memory::WIDTH);
     let n = shapes::write(&mut label, width, planned.shape, planned.label);
-    let round = labelled(image, map, planned, shapes::opening(&label, n), number);
-    tallies::count(tally, planned.call, round, plainmap::held(map))
+    let round = labelled(out, image, map, planned, shapes::opening(&label, n), number)?;
+    Ok(tallies::count(tally, planned.call, round, plainmap::held(map)))
 }
 
 // The charge of a call that sets one; of any other a value, after so many inserts.
@@ -90,19 +108,20 @@ fn number_of(planned: Planned, inserted: usize) -> usize {
 
 // Makes a call on a label; where it has a fault it is printed.
 fn labelled(
+    out: Stdout,
     image: &mut Image,
     map: &mut Lists,
     planned: Planned,
     label: &[u8],
     number: usize,
-) -> Round {
+) -> io::Result<Round> {
     let mut round = rounds::made(image, map, planned.call, label, number);
     let fault = fault_of(round, planned.refusal);
     if fault > 0 {
-        tallies::print_mismatch(planned.call, label, fault);
+        tallies::print_mismatch(out, planned.call, label, fault)?;
     }
     round.fault = fault;
-    round
+    Ok(round)
 }
 
 // The fault of a call that was to have a refusal's number.

@@ -7,58 +7,68 @@ use plans::{lengths, written};
 use reports::tallies;
 use reports::tallies::{CHANGES, Tally};
 use samples::shapes;
+use std::io;
+use std::io::Stdout;
 
 // Makes the loads of each group, and prints a line for each; the hub's index alone has them.
-pub fn run(image: &Image) {
+pub fn run(out: Stdout, image: &Image) -> io::Result<()> {
     if memory::is_page(image) {
-        return;
+        return Ok(());
     }
     for group in 0..written::GROUPS {
-        let tally = made(image, group);
-        tallies::print_written_loads(group, tally);
+        let tally = made(out, image, group)?;
+        tallies::print_written_loads(out, group, tally)?;
     }
+    Ok(())
 }
 
-fn made(image: &Image, group: usize) -> Tally {
+fn made(out: Stdout, image: &Image, group: usize) -> io::Result<Tally> {
     let mut tally = tallies::none();
     for i in 0..written::FILES {
-        let counted = load(image, group, i, written::refusal(group, i), tally);
+        let counted = load(out, image, group, i, written::refusal(group, i), tally)?;
         tally = counted;
     }
-    tally
+    Ok(tally)
 }
 
 // Loads a file, where there is one, that is to have a refusal's number.
-fn load(image: &Image, group: usize, i: usize, refusal: usize, tally: Tally) -> Tally {
+fn load(
+    out: Stdout,
+    image: &Image,
+    group: usize,
+    i: usize,
+    refusal: usize,
+    tally: Tally,
+) -> io::Result<Tally> {
     let mut file = outputs::fresh();
     let n = written::write(&mut file, group, i);
     if n == written::NO_FILE {
-        return tally;
+        return Ok(tally);
     }
-    loads::tried(image, &file, n, refusal, tally)
+    loads::tried(out, image, &file, n, refusal, tally)
 }
 
 // Loads the first file of each group into memory of each pair of lengths, and prints their line.
-pub fn run_lent(image: &Image) {
-    let tally = lend(image);
-    tallies::print_file_loads(memory::is_page(image), shapes::ROSTER, 2, tally);
+pub fn run_lent(out: Stdout, image: &Image) -> io::Result<()> {
+    let tally = lend(out, image)?;
+    tallies::print_file_loads(out, memory::is_page(image), shapes::ROSTER, 2, tally)
 }
 
-fn lend(image: &Image) -> Tally {
+fn lend(out: Stdout, image: &Image) -> io::Result<Tally> {
     let mut tally = tallies::none();
     for k in 0..lengths::PAIRS * written::GROUPS {
-        let next = lent(image, k, tally);
+        let next = lent(out, image, k, tally)?;
         tally = next;
     }
-    tally
+    Ok(tally)
 }
 
-fn lent(image: &Image, k: usize, tally: Tally) -> Tally {
+fn lent(out: Stdout, image: &Image, k: usize, tally: Tally) -> io::Result<Tally> {
     let mut copy = *image;
     lengths::lend(&mut copy, k / written::GROUPS);
     if memory::is_page(&copy) {
-        return tally;
+        return Ok(tally);
     }
     let changed = tallies::one_more_if(tally, CHANGES, !memory::same(image, &copy));
-    load(&copy, k % written::GROUPS, 0, ANY_REFUSAL, changed)
+    load(out, &copy, k % written::GROUPS, 0, ANY_REFUSAL, changed)
 }
