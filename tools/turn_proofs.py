@@ -312,6 +312,73 @@ def clauses_of(crate, folder, goal):
     return []
 
 
+def field_of(fields, path):
+    """The clause that a path of old projections names (`.1.0` is the second of three), and the rest of the path."""
+    ones = 0
+    while ones < len(path) and path[ones] == "1" and ones < len(fields) - 1:
+        ones += 1
+    if ones == len(fields) - 1:
+        return fields[ones], path[ones:]
+    if ones < len(path) and path[ones] == "0":
+        return fields[ones], path[ones + 1:]
+    return None, path
+
+
+ALL_CLAUSES = {}
+
+
+def clause_names(crate):
+    """The named clauses of each function, by its crate's or else by the only crate's that has it."""
+    if not ALL_CLAUSES:
+        for c in sorted(os.listdir(os.path.join(ROOT, "crates"))):
+            for d, _, fs in os.walk(os.path.join(ROOT, "crates", c, "src")):
+                for f in sorted(fs):
+                    if not f.endswith(".rt"):
+                        continue
+                    for m in re.finditer(r"fn (\w+)[(<]((?:(?!\nfn |\npub fn |\n\s*\{\n).)*)", open(os.path.join(d, f)).read(), re.S):
+                        got = {w: re.findall(r"\n\s*" + w + r"\s+(\w+)\s*\{", "\n" + m[2]) for w in ("ensures", "requires")}
+                        ALL_CLAUSES.setdefault(m[1], {})[c] = got
+    out = {}
+    for name, by in ALL_CLAUSES.items():
+        got = by.get(crate) or (next(iter(by.values())) if len({json.dumps(v) for v in by.values()}) == 1 else None)
+        if got:
+            out[name] = got
+    return out
+
+
+def clause_fields(crate, body):
+    names = clause_names(crate)
+
+    def one(m):
+        got = names.get(m[1].split("-")[0])
+        if not got or len(got[m[2]]) < 2:
+            return m[0]
+        f, rest = field_of(got[m[2]], m[3].split(".")[1:])
+        return f"c.{m[1]}.{m[2]}." + ".".join([f] + rest) if f else m[0]
+
+    return re.sub(r"(?<![\w.'-])c\.([\w-]+)\.(ensures|requires)((?:\.[01])+)", one, body)
+
+
+def field_answers(crate, said):
+    """Projections by a number, where a record has named fields now."""
+    todo = {}
+    for m in re.finditer(r"\./(proofs/\S+\.antt):(\d+):(\d+): error: [^\n]*\n  has no field `([01])`\n  its fields are ([^\n]*)", said):
+        todo.setdefault(m[1], []).append((int(m[2]), int(m[3]), re.findall(r"`([^`]+)`", m[5])))
+    for path, places in todo.items():
+        p = os.path.join(ROOT, "crates", crate, path)
+        lines = open(p).read().split("\n")
+        for row, col, fields in sorted(set((a, b, tuple(f)) for a, b, f in places), reverse=True):
+            line = lines[row - 1]
+            m = re.match(r"(?:\.[01](?![\w]))+", line[col - 1:])
+            if not m:
+                continue
+            f, rest = field_of(list(fields), m[0].split(".")[1:])
+            if f:
+                lines[row - 1] = line[: col - 1] + "." + ".".join([f] + rest) + line[col - 1 + m.end():]
+        open(p, "w").write("\n".join(lines))
+    return bool(todo)
+
+
 def answers(crate, folder, old, fn, path, wanted):
     head, decls = old
     rest, done = [], []
@@ -329,12 +396,13 @@ def answers(crate, folder, old, fn, path, wanted):
         new = fn.needs.get(o) or fn.needs.get(o2)
         lhs, _, body = d["body"].partition("=")
         body = body.strip()
-        if not new or re.match(r"search rules$", body):
+        if not new or (re.match(r"search rules$", body) and not d["unfolding"]):
             continue
         params = [p for p in lhs.split()[1:] if p != "κs"]
         var = params[-1] if params else "c"
         body = fn.body(body, new, var)
         body = re.sub(r"\s+κs\b", "", body) if "κs" in lhs else body
+        body = clause_fields(crate, body)
         texts.append((new, d, params[:-1], body))
     helptext = ""
     for h in helpers:
@@ -519,7 +587,10 @@ def main():
     rt(crate, "fmt")
     said = rt(crate, "check")
     open(os.path.join(store, "said2.txt"), "w").write(said)
-    if clause_answers(crate, said, goals):
+    for _ in range(6):
+        mended = clause_answers(crate, said, goals)
+        if not field_answers(crate, said) and not mended:
+            break
         rt(crate, "fmt")
         said = rt(crate, "check")
         open(os.path.join(store, "said2.txt"), "w").write(said)
