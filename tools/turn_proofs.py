@@ -38,6 +38,7 @@ def blocks(text):
     head = []
     cur = None
     for chunk in out:
+        chunk = re.sub(r"^((?:pub )?)\+(\S+-spec\b)", r"\1\2", chunk)
         if not chunk or chunk.startswith("--") or chunk.startswith("use "):
             head.append(chunk)
             continue
@@ -387,7 +388,7 @@ def answers(crate, folder, old, fn, path, wanted):
     for d in decls:
         m = re.search(r"(?:tie|lts)\.Need-(\S+)", d["sig"])
         if not m:
-            if re.match(r"(invariant|decreases)-", d["name"]) or d["name"] in ("μ", "entered", "deeper", "called") or d["name"].endswith("spec"):
+            if re.match(r"(invariant|decreases)-", d["name"]) or d["name"] in ("μ", "entered", "deeper", "called", "started", "below") or d["name"].endswith("spec") or "statement" in d["sig"]:
                 continue
             helpers.append(d)
             continue
