@@ -3,7 +3,7 @@
 -- `zeros_broken_by`, `zeros_on_by`: what a test of several numbers at once finds there.
 -- `four_words_zero`, `packed_zero`: several numbers are zero where the one number made of them is.
 -- `split_zeros`, `take_zeros`, `rows_zero`: two rows of numbers are zero where each is.
-use Prim.Native.Nat.{ℕ, zero, suc, ◌+◌, ◌*◌, ◌-◌, ◌≤◌, ◌<◌}
+use Prim.Native.Nat.{ℕ, zero, suc, ◌+◌, ◌*◌, ◌≤◌, ◌<◌}
 use mathlib.Core.Path.{◌≡◌, refl, sym, ap, ◌∙◌}
 use mathlib.Core.List.{List, [], ◌∷◌, ◌++◌}
 use mathlib.Core.Bool.{Bool, true, false, ◌&&◌}
