@@ -216,6 +216,10 @@ def invariants(crate, folder, old, fn, path):
             new, fields = loops[lab][0][1], loops[lab][1]
             lhs, _, body = d["body"].partition("=")
             params = lhs.split()[1:]
+            other = [x for x in decls if x["name"] == body.strip()]
+            if not params and other:
+                lhs, _, body = other[0]["body"].partition("=")
+                params = lhs.split()[1:]
             table = {}
             for p in params:
                 base = p.rstrip("₀₁₂₃₄")
