@@ -384,6 +384,57 @@ def field_answers(crate, said):
     return bool(todo)
 
 
+def product_paths(kind, n):
+    """The projections that take apart a product of n facts, as a type's text shows it."""
+    if n == 1:
+        return [""]
+    s, depth, parts, start = kind.strip(), 0, [], 0
+    for i, ch in enumerate(s):
+        if ch in "([{":
+            depth += 1
+        elif ch in ")]}":
+            depth -= 1
+        elif ch == "×" and depth == 0:
+            parts.append(s[start:i].strip())
+            start = i + 1
+    parts.append(s[start:].strip())
+    if len(parts) == n:
+        return [f".{i}" for i in range(n)]
+    if 1 < len(parts) < n and parts[-1].startswith("(") and parts[-1].endswith(")"):
+        rest = product_paths(parts[-1][1:-1], n - len(parts) + 1)
+        if rest:
+            return [f".{i}" for i in range(len(parts) - 1)] + [f".{len(parts) - 1}" + r for r in rest]
+    return None
+
+
+def product_answers(crate, said):
+    """A lemma that gives a product, where a goal asks a record now."""
+    todo = {}
+    for m in re.finditer(r"\./(proofs/\S+/Answers\.antt):(\d+):(\d+): error: `([^`]+)`:((?:[^\n]*\n(?!\./|fn ))*?)\s+but this has type `([^\n]*)`\n", said):
+        if "Asks-" + m[4] not in m[5]:
+            continue
+        f = re.search(r"two types are `record \{([^\n]*)", m[5])
+        todo.setdefault(m[1], []).append((m[4], int(m[2]), int(m[3]), m[6]))
+    changed = False
+    for path, places in todo.items():
+        p = os.path.join(ROOT, "crates", crate, path)
+        folder = os.path.dirname(path)[len("proofs/"):]
+        text = open(p).read()
+        lines = text.split("\n")
+        for name, row, col, kind in sorted(set(places), key=lambda t: -t[1]):
+            fields = clauses_of(crate, folder, name)
+            paths = product_paths(kind, len(fields)) if len(fields) > 1 else None
+            if not paths:
+                continue
+            at = sum(len(x) + 1 for x in lines[: row - 1]) + col - 1
+            end = re.search(r"\n\n\S|\Z", text[at:]).start() + at
+            term = text[at:end].rstrip()
+            text = text[:at] + f"let both = {term} in record {{ " + "; ".join(f"{f} = both{q}" for f, q in zip(fields, paths)) + " }" + text[end:]
+            changed = True
+        open(p, "w").write(text)
+    return changed
+
+
 def answers(crate, folder, old, fn, path, wanted):
     head, decls = old
     rest, done = [], []
@@ -594,7 +645,8 @@ def main():
     open(os.path.join(store, "said2.txt"), "w").write(said)
     for _ in range(6):
         mended = clause_answers(crate, said, goals)
-        if not field_answers(crate, said) and not mended:
+        mended = field_answers(crate, said) or mended
+        if not product_answers(crate, said) and not mended:
             break
         rt(crate, "fmt")
         said = rt(crate, "check")
