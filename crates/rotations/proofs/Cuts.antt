@@ -8,7 +8,7 @@ use native.Mathlib.Omega.{arith}
 use lib.Dec.{leb}
 use borrow.Author.Tests.{ne_eqb}
 use Rattle.labels.specs.Neighbours.{Neighbour, held}
-use Rattle.trees.specs.Trees.{Entry, Tree, empty, node, slots, right}
+use Rattle.trees.specs.Trees.{Entry, Tree, empty, node, slots}
 use Rattle.trees.specs.Heights.{height}
 use Rattle.trees.specs.Updates.{Least, without_least, joined}
 use Rattle.trees.proofs.Heights.{Kept}

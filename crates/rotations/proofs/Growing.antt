@@ -18,7 +18,7 @@ use Rattle.tables.specs.Prefix.{balance_by, balance_of}
 use Rattle.tables.specs.Written.{link_of}
 use Rattle.turns.specs.declared.Rebuilt.{Rebuilt}
 use Rattle.sides.specs.Rows.{row_on, put_on}
-use Rattle.turns.specs.Turns.{Turned, outcome, with_son, lean, grow, shrink}
+use Rattle.turns.specs.Turns.{Turned, outcome, with_son, grow, shrink}
 use Rattle.rotations.proofs.Rep.{Frame, Refines, flip_on, top_on, Over, GrowRefines, ShrinkRefines}
 use Rattle.rotations.proofs.Flips.{Leans, leans, row_on_same}
 use Rattle.rotations.proofs.Computed.{with_son_is, grow_is, shrink_is}
