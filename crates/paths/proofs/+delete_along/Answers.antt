@@ -1,0 +1,13 @@
+use Rattle.paths.specs.Paths.{delete_along}
+use Rattle.paths.proofs.Recursions.{deleted_below}
+use Rattle.paths.proofs.+delete_along.Goals as goal
+
+pub returns-then-length-eq0 : goal.returns-then-length-eq0
+unfolding delete_along
+returns-then-length-eq0 t c = simp c.if-length-eq0.true c.cut.ensures
+
+pub returns : goal.returns
+returns t c = let at_entry_lem = c.args in
+    deleted_below at_entry_lem.length at_entry_lem.path at_entry_lem.height at_entry_lem.table.now at_entry_lem.c
+    at_entry_lem.place at_entry_lem.side c.if-length-eq0.false c.flip_of-flip.ensures c.row_on-row.ensures
+    c.delete_along-deeper.ensures c.shrink.ensures

@@ -1,0 +1,20 @@
+use mathlib.Core.Path.{refl}
+use borrow.Author.Tests.{eq-eqb, ne_eqb}
+use Rattle.paths.specs.Paths.{cut}
+use Rattle.paths.proofs.Recursions.{cut_moved}
+use Rattle.paths.proofs.cut.Goals as goal
+
+pub returns-then-row-eq0 : goal.returns-then-row-eq0
+unfolding cut
+returns-then-row-eq0 c = simp (← c.row_of-row.ensures, eq-eqb _ _ c.if-row-eq0.true) (record { stored = refl; handed = refl })
+
+pub returns-then-row-eq0-2 : goal.returns-then-row-eq0-2
+unfolding cut
+returns-then-row-eq0-2 c = simp (← c.row_of-row.ensures, ne_eqb _ _ c.if-row-eq0.false, eq-eqb _ _ c.if-row-eq0-2.true)
+    (record { stored = refl; handed = refl })
+
+pub returns : goal.returns
+returns c = let at_entry_lem = c.args in
+    cut_moved at_entry_lem.height at_entry_lem.table.now at_entry_lem.c at_entry_lem.place at_entry_lem.side
+    c.row_of-row.ensures c.if-row-eq0.false c.if-row-eq0-2.false c.pop_least-popped.ensures c.put_least.ensures
+    c.shrink.ensures
