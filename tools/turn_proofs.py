@@ -536,6 +536,7 @@ def tuple_parts(tuple_text):
             parts.append(s[start:i].strip())
             start = i + 1
     parts.append(s[start:-1].strip())
+    parts = [x for x in parts if x]
     return parts if len(parts) > 1 else None
 
 
