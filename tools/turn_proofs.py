@@ -131,6 +131,7 @@ class Fn:
             return ".".join(["c"] + new)
 
         text = re.sub(r"(?<![\w.'′₀-₉-])(" + names + r")((?:\.[\w'′₀-₉-]+)*)(?![\w'′₀-₉-])", one, text)
+        text = re.sub(r"\(not-(?:true|false) _ (c\.if-not-[\w-]+\.(?:true|false))\)", r"\1", text)
         return text.replace("c{-place-}", "c")
 
 
