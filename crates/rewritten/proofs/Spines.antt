@@ -3,7 +3,7 @@
 -- left-spine: in the subtree to its right every node but the smallest has the smallest as its neighbour below.
 -- least_from_lem: the smallest node's slot is found.
 use mathlib.Core.List.{List, []}
-use mathlib.Core.Path.{◌≡◌, refl, sym, ◌∙◌}
+use mathlib.Core.Path.{◌≡◌, refl, sym, subst⁻¹, ◌∙◌}
 use mathlib.Core.Bool.{Bool, true, false, cond}
 use Prim.Native.Nat.{ℕ, zero, suc, ◌≤◌}
 use native.Mathlib.Omega.{arith}
@@ -87,7 +87,8 @@ module _ (limits : Limits) (store : List ℕ) where
         lower = below_named limits step store (named_standing limits step store stands whole.stored.0);
         upper = above_renewed limits store one least ∙ window.upper;
       }) (omega (arith, occurrences_of_node least l e r)) in
-      rw (spine_step limits false table store count e.slot outer least (link_of r)
+      subst⁻¹ (λ (after : List ℕ). Rep after p q' (node l e r) × Renews (slots (node l e r)) table after)
+      (spine_step limits false table store count e.slot outer least (link_of r)
       (λ none. omega (arith, rep.0.has.low))
       (λ same. other_slot least e.slot (omega (arith, occurrences_of_node least l e r)) (sym same))
       (λ i. (rep.0.row i).right)) (
@@ -140,7 +141,9 @@ module _ (limits : Limits) (store : List ℕ) where
         lower = below_renewed limits store one least.slot ∙ window.lower;
         upper = above_named limits step store (named_standing limits step store stands whole.stored.0);
       }) in
-      rw (spine_step limits true table store count e.slot outer least.slot d.slot
+      subst⁻¹ (λ (after : List ℕ). RepLeast after (held least.label) q (node (node a d b) e r)
+      × Renews (slots (node (node a d b) e r)) table after)
+      (spine_step limits true table store count e.slot outer least.slot d.slot
       (λ none. omega (arith, rep.0.has.low)) (apart once) (λ i. (rep.0.row i).left)) (
         (
           node_stays left (node a d b) e r once deeper.1 stands,
