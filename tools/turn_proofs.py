@@ -459,6 +459,8 @@ def answers(crate, folder, old, fn, path, wanted):
         var = params[-1] if params else "c"
         body = fn.body(body, new, var)
         body = re.sub(r"\s+κs\b", "", body) if "κs" in lhs else body
+        if "+" in folder:
+            body = re.sub(r"(?<![\w.-])c\.requires\.([01])(?![\w])", lambda m: "c.decreases" if m[1] == "0" else "c.requires", body)
         body = clause_fields(crate, body)
         texts.append((new, d, params[:-1], body))
     helptext = ""
