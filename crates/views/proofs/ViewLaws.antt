@@ -6,7 +6,7 @@
 -- `view_shown`, `view_hidden`: what the second call returns where the first is done, and where it refuses.
 use mathlib.Core.List.{List, []}
 use mathlib.Core.Path.{◌≡◌, refl, sym, ap, ◌∙◌}
-use Prim.Native.Nat.{ℕ, ◌+◌, ◌-◌, ◌≤◌, ◌<◌}
+use Prim.Native.Nat.{ℕ, ◌+◌, ◌≤◌, ◌<◌}
 use native.Mathlib.Omega.{arith}
 use lib.Dec.{eqb, ltb}
 use lib.ListN.{length}
@@ -108,9 +108,9 @@ module _ (limits : Limits) (table : List ℕ) (store : Bor (List ℕ)) (k : ℕ)
         start = shows.start ∙ ap (λ (n : ℕ). store.ref_ptr.1 + n) (sym both.1);
       }
 
-  pub view_hidden : (reason : Refusal) (name : ℕ) → answer ≡ answers.Refused reason
-      → Views limits table store k (record { ref_ptr = (store.ptr.0, 0 + store.ptr.1); ghost_name = name; now = [] })
-  view_hidden reason name e =
+  pub view_hidden : (reason : Refusal) → answer ≡ answers.Refused reason
+      → Views limits table store k (record { ref_ptr = (store.ref_ptr.0, 0 + store.ref_ptr.1); now = [] })
+  view_hidden reason e =
       let both = hidden limits table store.now k (refusal_number reason) (cc) in
       record { bytes = sym both.0; block = refl; start = omega arith }
 
