@@ -48,7 +48,8 @@ pub fn finish(table: &mut [u16], store: &mut [u8], line: Line, out: &mut [u8]) -
 {
     let bytes = line.bytes;
     let len = keeps::held(&bytes, line.len);
-    if len > 0 {
+    let begun = len > 0;
+    if begun {
         return replies::reply(table, store, line, out, 0);
     }
     0
