@@ -38,17 +38,17 @@ module _ (f : ℕ → Label) where
   occurring_above : {p s : Neighbour} (list : List ℕ) → Linked p (map f list) s → (k : ℕ) → 1 ≤ occurrences k list
       → Before p (held (f k))
   occurring_above [] linked k occurs = absurd (omega arith)
-  occurring_above (j ∷ list) (linked_step before rest) k occurs =
+  occurring_above {p = p} (j ∷ list) (linked_step before rest) k occurs =
       first_or_after k j list (λ first. rw first before)
-      (λ after. before_trans before (occurring_above list rest k after)) occurs
+      (λ after. before_trans before (occurring_above {p = held (f j)} list rest k after)) occurs
 
   -- No number stands twice in a list whose labels ascend.
   ascending_once : {p s : Neighbour} (list : List ℕ) → Linked p (map f list) s → (k : ℕ) → occurrences k list ≤ 1
   ascending_once [] linked k = omega arith
-  ascending_once (j ∷ list) (linked_step before rest) k =
+  ascending_once {p = p} (j ∷ list) (linked_step before rest) k =
       once_more k j list
       (λ first again. below_irreflexive (rw first at (occurring_above list rest k again)))
-      (ascending_once list rest k)
+      (ascending_once {p = held (f j)} list rest k)
 
 -- Every element of an all-zero list is 0, and so is what is read past its end.
 zero_at : (list : List ℕ) → all_zero list ≡ true → (i : ℕ) → get_or list i 0 ≡ 0

@@ -10,7 +10,7 @@ use lib.Dec.{leb}
 use borrow.Author.Tests.{leb-true, eqb-true}
 use Rattle.types.specs.declared.Limits.{Limits}
 use Rattle.labels.specs.Neighbours.{none_below, none_above}
-use Rattle.trees.specs.Trees.{Tree, slots, size}
+use Rattle.trees.specs.Trees.{Tree, size}
 use Rattle.trees.proofs.Views.{both_true}
 use Rattle.trees.proofs.Counts.{test_of_exactly}
 use Rattle.trees.proofs.Sorted.{ascends_of_between}
@@ -20,7 +20,7 @@ use Rattle.checks.specs.Check.{check_tree, check_chain, count_is, sound_by_walks
 use Rattle.heights.specs.declared.Subtree.{Subtree}
 use Rattle.heights.specs.declared.Subtree.TheVariants.{Unsound, Sound}
 use Rattle.trees.proofs.Passing.{false_not_true, same_tests}
-use Rattle.tables.proofs.Reading.{Stands, TreeRead, no_tree, a_tree, tree_read, chain_read}
+use Rattle.tables.proofs.Reading.{Stands, TreeRead, no_tree, a_tree, tree_read}
 use Rattle.tables.proofs.Reading.{read_when_follows}
 use Rattle.tables.proofs.Clauses.{SoundRead, sound_of_read}
 use Rattle.decides.proofs.SonTests.{unsound_not_sound}
