@@ -296,6 +296,8 @@ def split_tuple(text):
             out.append(text[last:i].strip())
             last = i + 1
     out.append(text[last:-1].strip())
+    if len(out) > 1 and not out[-1]:
+        out.pop()
     return out
 
 
