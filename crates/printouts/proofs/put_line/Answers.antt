@@ -1,0 +1,5 @@
+use Rattle.printouts.proofs.Lines.{line_put}
+use Rattle.printouts.proofs.put_line.Goals as goal
+
+pub returns : goal.returns
+returns c = search line_put
