@@ -2,15 +2,15 @@
  * and the same, but for strap_set_charge, strap_save, strap_load and strap_take_roster, of the pairing page's own small
  * index, in `page_exports`.
  *
- * Build a library with `rt staticlib exports` or `rt staticlib page_exports`, and link target/staticlib/libexports.a,
- * libpage_exports.a or both (x86-64 Linux).
+ * Build both with `bench/libraries`, and link target/staticlib/libexports.a, libpage_exports.a or both (x86-64 Linux).
  *
  * Labels are compared with A to Z as a to z, and kept as they were first spelled.
  *
  * A lent part (table, store, label, list, output, file, text) passes as its pointer and its length in elements. Any
  * length and any content is taken: a call answers, or refuses by a number below; a refused call has changed nothing,
  * but for strap_take_roster, which keeps the records before the refused one. The contracts stand in
- * crates/exports/src/lib.rt and crates/page_exports/src/lib.rt, and crates/packs/specs/Packed.antt defines the packing.
+ * crates/exports_c/src/lib.rt and crates/page_exports_c/src/lib.rt, and crates/packs/specs/Packed.antt defines the
+ * packing.
  *
  * What is asked of a caller, since no proof reaches past the library:
  *   - each pointer is not null, is aligned for its type, and reaches as many elements as its length says, all of them

@@ -1,8 +1,6 @@
-// The hub's label index for other languages: numbers and slices in, the answer packed in one number.
-// `include/strap_index.h` names these calls for C. A slice passes as its pointer and its length. Any length and any
-// content is taken, and each call answers as the index does. A caller in another language owes what the language asks
-// of every caller here: each pointer reaches as many words or bytes as its length says, the lent parts do not overlap,
-// and they live, unchanged by others, through the call.
+// The hub's label index for other languages: numbers and slices in, the answer packed in one number. The crate
+// `exports_c` gives these calls to C. Any length and any content of a slice is taken, and each call answers as the index
+// does.
 #![tactic(auto)]
 
 ghost use Rattle.std.specs.Prelude.{◌≡◌};
@@ -18,8 +16,7 @@ ghost use Rattle.exported.specs.Given.{packed_view, Packs, PacksList, PacksSave,
 use types::DoneAnswer;
 
 // Lays out an empty table.
-#[unsafe(no_mangle)]
-pub extern "C" fn strap_layout(table: &mut [u16], store: &mut [u8]) -> usize
+pub fn strap_layout(table: &mut [u16], store: &mut [u8]) -> usize
     ensures { Packs (layout_outcome hub table.old store.old)
         result table.new store.new }
 {
@@ -27,21 +24,14 @@ pub extern "C" fn strap_layout(table: &mut [u16], store: &mut [u8]) -> usize
 }
 
 // Searches for a label: its slot and value, or the slots of its neighbours.
-#[unsafe(no_mangle)]
-pub extern "C" fn strap_search(table: &[u16], store: &[u8], label: &[u8]) -> usize
+pub fn strap_search(table: &[u16], store: &[u8], label: &[u8]) -> usize
     ensures { result ≡ packed (search_outcome hub table.now store.now label.now) }
 {
     packs::packed_search(index::search(table, store, label))
 }
 
 // Inserts a label with its value.
-#[unsafe(no_mangle)]
-pub extern "C" fn strap_insert(
-    table: &mut [u16],
-    store: &mut [u8],
-    label: &[u8],
-    value: u16,
-) -> usize
+pub fn strap_insert(table: &mut [u16], store: &mut [u8], label: &[u8], value: u16) -> usize
     ensures { Packs (insert_outcome hub table.old store.old label.now value)
         result table.new store.new }
 {
@@ -49,8 +39,7 @@ pub extern "C" fn strap_insert(
 }
 
 // Deletes a label.
-#[unsafe(no_mangle)]
-pub extern "C" fn strap_delete(table: &mut [u16], store: &mut [u8], label: &[u8]) -> usize
+pub fn strap_delete(table: &mut [u16], store: &mut [u8], label: &[u8]) -> usize
     ensures { Packs (delete_outcome hub table.old store.old label.now)
         result table.new store.new }
 {
@@ -58,13 +47,7 @@ pub extern "C" fn strap_delete(table: &mut [u16], store: &mut [u8], label: &[u8]
 }
 
 // Sets the charge of a held label.
-#[unsafe(no_mangle)]
-pub extern "C" fn strap_set_charge(
-    table: &mut [u16],
-    store: &[u8],
-    label: &[u8],
-    charge: u16,
-) -> usize
+pub fn strap_set_charge(table: &mut [u16], store: &[u8], label: &[u8], charge: u16) -> usize
     ensures { Packs (charge_outcome hub table.old store.now label.now charge)
         result table.new store.now }
 {
@@ -72,16 +55,14 @@ pub extern "C" fn strap_set_charge(
 }
 
 // Tests the whole table and store.
-#[unsafe(no_mangle)]
-pub extern "C" fn strap_check(table: &[u16], store: &[u8]) -> usize
+pub fn strap_check(table: &[u16], store: &[u8]) -> usize
     ensures { result ≡ packed (check_outcome hub table.now store.now) }
 {
     packs::packed_done(index::check(table, store))
 }
 
 // Writes the slots in ascending label order into a lent list.
-#[unsafe(no_mangle)]
-pub extern "C" fn strap_listing(table: &[u16], store: &[u8], list: &mut [u16]) -> usize
+pub fn strap_listing(table: &[u16], store: &[u8], list: &mut [u16]) -> usize
     ensures { PacksList (listing_outcome hub table.now store.now list.old)
         result list.new }
 {
@@ -89,8 +70,7 @@ pub extern "C" fn strap_listing(table: &[u16], store: &[u8], list: &mut [u16]) -
 }
 
 // Writes the file of the labels into the front of a lent output.
-#[unsafe(no_mangle)]
-pub extern "C" fn strap_save(table: &[u16], store: &[u8], output: &mut [u8]) -> usize
+pub fn strap_save(table: &[u16], store: &[u8], output: &mut [u8]) -> usize
     ensures { PacksSave (save_outcome hub table.now store.now output.old)
         result output.new }
 {
@@ -98,8 +78,7 @@ pub extern "C" fn strap_save(table: &[u16], store: &[u8], output: &mut [u8]) -> 
 }
 
 // Loads a saved file into table and store, whatever they hold.
-#[unsafe(no_mangle)]
-pub extern "C" fn strap_load(table: &mut [u16], store: &mut [u8], file: &[u8]) -> usize
+pub fn strap_load(table: &mut [u16], store: &mut [u8], file: &[u8]) -> usize
     ensures { PacksLoad (load_outcome hub table.old store.old file.now)
         result table.new store.new }
 {
@@ -107,8 +86,7 @@ pub extern "C" fn strap_load(table: &mut [u16], store: &mut [u8], file: &[u8]) -
 }
 
 // Takes a roster into table and store, record by record.
-#[unsafe(no_mangle)]
-pub extern "C" fn strap_take_roster(table: &mut [u16], store: &mut [u8], text: &[u8]) -> usize
+pub fn strap_take_roster(table: &mut [u16], store: &mut [u8], text: &[u8]) -> usize
     ensures { PacksRoster (roster_outcome hub table.old store.old text.now)
         result table.new store.new }
 {
@@ -116,16 +94,14 @@ pub extern "C" fn strap_take_roster(table: &mut [u16], store: &mut [u8], text: &
 }
 
 // Whether the view of a slot's label is refused.
-#[unsafe(no_mangle)]
-pub extern "C" fn strap_view_check(table: &[u16], store: &[u8], slot: usize) -> usize
+pub fn strap_view_check(table: &[u16], store: &[u8], slot: usize) -> usize
     ensures { result ≡ packed (view_outcome hub table.now store.now slot) }
 {
     packs::packed_done(index::view_check(table, store, slot))
 }
 
 // Where in the lent store a slot's label begins, and how long it is.
-#[unsafe(no_mangle)]
-pub extern "C" fn strap_view(table: &[u16], store: &[u8], slot: usize) -> usize
+pub fn strap_view(table: &[u16], store: &[u8], slot: usize) -> usize
     ensures { result ≡ packed_view hub table.now store.now slot }
 {
     let said = index::view_check(table, store, slot);

@@ -1,5 +1,5 @@
 // The pairing page's label index for other languages: the calls of `exports` at the page's limits, under names of their
-// own. What is asked of a caller is said there.
+// own. The crate `page_exports_c` gives them to C.
 #![tactic(auto)]
 
 ghost use Rattle.std.specs.Prelude.{◌≡◌};
@@ -12,8 +12,7 @@ ghost use Rattle.exported.specs.Given.{packed_view, Packs, PacksList};
 use types::DoneAnswer;
 
 // Lays out an empty table.
-#[unsafe(no_mangle)]
-pub extern "C" fn strap_page_layout(table: &mut [u16], store: &mut [u8]) -> usize
+pub fn strap_page_layout(table: &mut [u16], store: &mut [u8]) -> usize
     ensures { Packs (layout_outcome page table.old store.old)
         result table.new store.new }
 {
@@ -21,21 +20,14 @@ pub extern "C" fn strap_page_layout(table: &mut [u16], store: &mut [u8]) -> usiz
 }
 
 // Searches for a label: its slot and value, or the slots of its neighbours.
-#[unsafe(no_mangle)]
-pub extern "C" fn strap_page_search(table: &[u16], store: &[u8], label: &[u8]) -> usize
+pub fn strap_page_search(table: &[u16], store: &[u8], label: &[u8]) -> usize
     ensures { result ≡ packed (search_outcome page table.now store.now label.now) }
 {
     packs::packed_search(index::page::search(table, store, label))
 }
 
 // Inserts a label with its value.
-#[unsafe(no_mangle)]
-pub extern "C" fn strap_page_insert(
-    table: &mut [u16],
-    store: &mut [u8],
-    label: &[u8],
-    value: u16,
-) -> usize
+pub fn strap_page_insert(table: &mut [u16], store: &mut [u8], label: &[u8], value: u16) -> usize
     ensures { Packs (insert_outcome page table.old store.old label.now value)
         result table.new store.new }
 {
@@ -43,8 +35,7 @@ pub extern "C" fn strap_page_insert(
 }
 
 // Deletes a label.
-#[unsafe(no_mangle)]
-pub extern "C" fn strap_page_delete(table: &mut [u16], store: &mut [u8], label: &[u8]) -> usize
+pub fn strap_page_delete(table: &mut [u16], store: &mut [u8], label: &[u8]) -> usize
     ensures { Packs (delete_outcome page table.old store.old label.now)
         result table.new store.new }
 {
@@ -52,16 +43,14 @@ pub extern "C" fn strap_page_delete(table: &mut [u16], store: &mut [u8], label: 
 }
 
 // Tests the whole table and store.
-#[unsafe(no_mangle)]
-pub extern "C" fn strap_page_check(table: &[u16], store: &[u8]) -> usize
+pub fn strap_page_check(table: &[u16], store: &[u8]) -> usize
     ensures { result ≡ packed (check_outcome page table.now store.now) }
 {
     packs::packed_done(index::page::check(table, store))
 }
 
 // Writes the slots in ascending label order into a lent list.
-#[unsafe(no_mangle)]
-pub extern "C" fn strap_page_listing(table: &[u16], store: &[u8], list: &mut [u16]) -> usize
+pub fn strap_page_listing(table: &[u16], store: &[u8], list: &mut [u16]) -> usize
     ensures { PacksList (listing_outcome page table.now store.now list.old)
         result list.new }
 {
@@ -69,16 +58,14 @@ pub extern "C" fn strap_page_listing(table: &[u16], store: &[u8], list: &mut [u1
 }
 
 // Whether the view of a slot's label is refused.
-#[unsafe(no_mangle)]
-pub extern "C" fn strap_page_view_check(table: &[u16], store: &[u8], slot: usize) -> usize
+pub fn strap_page_view_check(table: &[u16], store: &[u8], slot: usize) -> usize
     ensures { result ≡ packed (view_outcome page table.now store.now slot) }
 {
     packs::packed_done(index::page::view_check(table, store, slot))
 }
 
 // Where in the lent store a slot's label begins, and how long it is.
-#[unsafe(no_mangle)]
-pub extern "C" fn strap_page_view(table: &[u16], store: &[u8], slot: usize) -> usize
+pub fn strap_page_view(table: &[u16], store: &[u8], slot: usize) -> usize
     ensures { result ≡ packed_view page table.now store.now slot }
 {
     let said = index::page::view_check(table, store, slot);
