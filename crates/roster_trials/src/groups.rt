@@ -64,11 +64,10 @@ pub fn run_small(out: Stdout, image: &mut Image, map: &mut Lists, ways: usize) -
         tally = counted;
     }
     if ways == WAYS {
-        tallies::print_named(out, b"one byte changed", tally)?;
+        tallies::print_named(out, b"one byte changed", tally)
     } else {
-        tallies::print_named(out, b"cut short", tally)?;
+        tallies::print_named(out, b"cut short", tally)
     }
-    Ok(())
 }
 
 fn take_small(
@@ -174,11 +173,10 @@ pub fn run_drawn(out: Stdout, image: &mut Image, map: &mut Lists, changed: bool)
         tally = counted;
     }
     if changed {
-        tallies::print_named(out, b"drawn, one byte changed", tally)?;
+        tallies::print_named(out, b"drawn, one byte changed", tally)
     } else {
-        tallies::print_named(out, b"drawn", tally)?;
+        tallies::print_named(out, b"drawn", tally)
     }
-    Ok(())
 }
 
 fn take_drawn(
