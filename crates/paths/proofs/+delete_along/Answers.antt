@@ -7,7 +7,7 @@ unfolding delete_along
 returns-then-length-eq0 t c = simp c.if-length-eq0.true c.cut.ensures
 
 pub returns : goal.returns
-returns t c = let at_entry_lem = c.args in
-    deleted_below at_entry_lem.length at_entry_lem.path at_entry_lem.height at_entry_lem.table.now at_entry_lem.c
-    at_entry_lem.place at_entry_lem.side c.if-length-eq0.false c.flip_of-flip.ensures c.row_on-row.ensures
+returns t c =
+    deleted_below c.args.length c.args.path c.args.height c.args.table.now c.args.c
+    c.args.place c.args.side c.if-length-eq0.false c.flip_of-flip.ensures c.row_on-row.ensures
     c.delete_along-deeper.ensures c.shrink.ensures

@@ -8,7 +8,7 @@ unfolding insert_along
 returns-then-length-eq0 t c = simp c.if-length-eq0.true (record { stored = refl; handed = refl })
 
 pub returns : goal.returns
-returns t c = let at_entry_lem = c.args in
-    inserted_below at_entry_lem.length at_entry_lem.path at_entry_lem.table.now at_entry_lem.c at_entry_lem.slot
+returns t c =
+    inserted_below c.args.length c.args.path c.args.table.now c.args.c c.args.slot
     c.if-length-eq0.false c.flip_of-flip.ensures c.row_on-row.ensures
     c.insert_along-deeper.ensures c.grow.ensures

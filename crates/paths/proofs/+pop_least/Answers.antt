@@ -12,6 +12,6 @@ returns-then-row-eq0 t c = rw (popped_here _ _ _ c.if-height-eq0.false c.row_of-
     (record { yields = record { stored = refl; handed = refl }; lowest = refl })
 
 pub returns : goal.returns
-returns t c = let at_entry_lem = c.args in
-    popped_below at_entry_lem.height at_entry_lem.table.now at_entry_lem.c c.if-height-eq0.false c.row_of-row.ensures
+returns t c =
+    popped_below c.args.height c.args.table.now c.args.c c.if-height-eq0.false c.row_of-row.ensures
     c.if-row-eq0.false c.pop_least-deeper.ensures c.shrink-rest.ensures

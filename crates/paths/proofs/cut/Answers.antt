@@ -14,7 +14,7 @@ returns-then-row-eq0-2 c = simp (← c.row_of-row.ensures, ne_eqb _ _ c.if-row-e
     (record { stored = refl; handed = refl })
 
 pub returns : goal.returns
-returns c = let at_entry_lem = c.args in
-    cut_moved at_entry_lem.height at_entry_lem.table.now at_entry_lem.c at_entry_lem.place at_entry_lem.side
+returns c =
+    cut_moved c.args.height c.args.table.now c.args.c c.args.place c.args.side
     c.row_of-row.ensures c.if-row-eq0.false c.if-row-eq0-2.false c.pop_least-popped.ensures c.put_least.ensures
     c.shrink.ensures

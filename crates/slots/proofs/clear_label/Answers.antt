@@ -11,6 +11,6 @@ loop-i-preserved c = (search rules, search clear_next)
 
 pub returns : goal.returns
 unfolding without_label
-returns c = let at_entry_lem = c.args in
+returns c =
     clear_all _ _ _ _ _ c.loop-i.invariant.1 c.loop-i-test.false
-    ∙ ap (λ s. sets at_entry_lem.store.now s (replicate at_entry_lem.limits.width 0)) c.part_start-start.ensures.value
+    ∙ ap (λ s. sets c.args.store.now s (replicate c.args.limits.width 0)) c.part_start-start.ensures.value

@@ -15,21 +15,21 @@ returns-then-parent-son c = simp (← c.to_parent.ensures, eq-eqb _ _ c.if-son-t
 
 pub returns-then-son-parent : goal.returns-then-son-parent
 unfolding exchanges
-returns-then-son-parent c = let at_entry_lem = c.args in
-    let apart : at_entry_lem.parent.place ≢ at_entry_lem.son.place = omega arith in
+returns-then-son-parent c =
+    let apart : c.args.parent.place ≢ c.args.son.place = omega arith in
     simp (← c.to_parent.ensures, eq-eqb _ _ c.if-son-to_parent.false)
     (simp (le-ltb _ _ c.if-parent-son.false, ne_eqb _ _ apart))
 
 pub returns-then-flip : goal.returns-then-flip
 unfolding exchanges
-returns-then-flip c = let at_entry_lem = c.args in
-    let tied : at_entry_lem.parent.place ≡ at_entry_lem.son.place = omega arith in
+returns-then-flip c =
+    let tied : c.args.parent.place ≡ c.args.son.place = omega arith in
     simp (← c.to_parent.ensures, eq-eqb _ _ c.if-son-to_parent.false)
     (simp (le-ltb _ _ c.if-parent-son.false, eq-eqb _ _ tied, c.if-flip.true))
 
 pub returns : goal.returns
 unfolding exchanges
-returns c = let at_entry_lem = c.args in
-    let tied : at_entry_lem.parent.place ≡ at_entry_lem.son.place = omega arith in
+returns c =
+    let tied : c.args.parent.place ≡ c.args.son.place = omega arith in
     simp (← c.to_parent.ensures, eq-eqb _ _ c.if-son-to_parent.false)
     (simp (le-ltb _ _ c.if-parent-son.false, eq-eqb _ _ tied, c.if-flip.false))
