@@ -4,3 +4,4 @@ pub mod Listed
 pub mod Slots
 pub mod Printed
 pub mod EachLabel
+pub mod Filled

@@ -10,7 +10,7 @@ invariant-loop-i l = record {
   said : after (progress_of l.table l.store l.out l.progress) (drop l.i l.bytes)
       ≡ taken (shell_of l.initial.table l.initial.store l.initial.progress.line) l.bytes;
   room : l.progress.end ≤ 96 * l.i;
-  inside : l.i ≤ length l.bytes
+  inside : l.i ≤ length l.bytes;
 }
 
 abbrev pub decreases-loop-i : goal.decreases-loop-i
