@@ -50,7 +50,7 @@ module _ (f : ℕ → Label) where
       (λ first again. below_irreflexive (rw first at (occurring_above list rest k again)))
       (ascending_once {p = held (f j)} list rest k)
 
--- Every element of an all-zero list is 0, and so is what is read past its end.
+-- Every element of an all_zero list is 0, and so is what is read past its end.
 zero_at : (list : List ℕ) → all_zero list ≡ true → (i : ℕ) → get_or list i 0 ≡ 0
 zero_at [] zeros i = refl
 zero_at (n ∷ list) zeros zero = eqb-true n 0 ((both_true _ _).0 zeros).0

@@ -3,14 +3,14 @@
 --     above_digits        a byte above 57 is no digit
 --     among_digits        a byte from 48 to 57 is a digit
 --     at_least_what_came  further digits make no number smaller
---     value-ends          with no digit left the number is the one that was written
---     value-of-no-digit   a byte that is no digit makes it no value
---     value-goes-on       a digit is read into the number
---     value-above         a number above 65535 is no value, whatever comes after it
---     value-of-no-text    no byte is no value
---     value-of-zero       one digit 0 is the value 0
---     value-of-zeros      a needless zero is no value
---     value-of-digits     after another first byte, the value is the digits' number
+--     value_ends          with no digit left the number is the one that was written
+--     value_of_no_digit   a byte that is no digit makes it no value
+--     value_goes_on       a digit is read into the number
+--     value_above         a number above 65535 is no value, whatever comes after it
+--     value_of_no_text    no byte is no value
+--     value_of_zero       one digit 0 is the value 0
+--     value_of_zeros      a needless zero is no value
+--     value_of_digits     after another first byte, the value is the digits' number
 use mathlib.Core.Path.{◌≡◌, refl, sym, ◌∙◌}
 use mathlib.Core.Bool.{Bool, true, false, ◌&&◌}
 use mathlib.Core.List.{List, [], ◌∷◌}

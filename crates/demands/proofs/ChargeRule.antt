@@ -1,5 +1,5 @@
 -- Word 7 on every sound table.
--- charge-rule: in a slot in use it is a charge, and may be any; in another slot it is 0.
+-- charge_rule: in a slot in use it is a charge, and may be any; in another slot it is 0.
 use mathlib.Core.Bool.{Bool, true, false, cond}
 use mathlib.Core.List.{List, [], ◌∷◌}
 use mathlib.Core.Path.{◌≡◌, refl, ap, ◌∙◌}

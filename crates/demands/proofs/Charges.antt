@@ -1,5 +1,5 @@
 -- The call that sets a charge, on a valid state written out, for a label that fits.
--- charges-map: it is refused or done as the map has it, sets the charge in the map, and stores one word.
+-- charges_map: it is refused or done as the map has it, sets the charge in the map, and stores one word.
 use mathlib.Core.Bool.{Bool, true, false, not}
 use mathlib.Core.Path.{◌≡◌, refl, sym, ap, ◌∙◌}
 use Prim.Native.Nat.{ℕ}

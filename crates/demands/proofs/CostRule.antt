@@ -1,5 +1,5 @@
 -- Demand 3: every list of calls goes as the plain tree goes.
--- call-agrees: each call on a valid state written out agrees with the plain tree's step.
+-- call_agrees: each call on a valid state written out agrees with the plain tree's step.
 -- cost_rule: so does every list of calls on what layout left.
 use mathlib.Core.List.{List, [], ◌∷◌}
 use mathlib.Core.Path.{◌≡◌, refl, sym, ap}

@@ -1,5 +1,5 @@
 -- The counts that an answer gives are those of its search steps, in every version that meets the contract.
--- search-counts, update-counts: so it is of searches, and of inserts and deletes.
+-- search_counts, update_counts: so it is of searches, and of inserts and deletes.
 use mathlib.Core.List.{List}
 use mathlib.Core.Path.{sym, ap, ◌∙◌}
 use Prim.Native.Nat.{ℕ}

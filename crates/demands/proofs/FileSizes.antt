@@ -1,6 +1,6 @@
 -- The longest file.
--- saves-within: of words of 16 bits, no more is written than the longest file has.
--- fit-read: the pairs of a tree that such words represent fit.
+-- saves_within: of words of 16 bits, no more is written than the longest file has.
+-- fit_read: the pairs of a tree that such words represent fit.
 use mathlib.Core.Bool.{Bool, true, false, not}
 use mathlib.Core.List.{List}
 use mathlib.Core.Path.{◌≡◌, refl, ap}

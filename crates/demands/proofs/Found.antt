@@ -1,5 +1,5 @@
 -- A search on a valid state written out finds exactly the labels that the plain tree holds.
--- finds-held: it is answered found with the slot and the value of the node that has the label, and found nowhere else.
+-- finds_held: it is answered found with the slot and the value of the node that has the label, and found nowhere else.
 use mathlib.Core.Path.{◌≡◌, refl, sym, ap, ◌∙◌}
 use Prim.Native.Nat.{ℕ}
 use Rattle.types.specs.declared.Limits.{Limits}

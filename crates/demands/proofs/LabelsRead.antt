@@ -1,8 +1,8 @@
 -- The labels of a represented tree are read back from its slots.
--- label-read, charge-read: so are the label and the charge of a node. labels-read: so are the labels of all
+-- label_read, charge_read: so are the label and the charge of a node. labels_read: so are the labels of all
 -- nodes, from left to right.
 -- of_node: what is so of a node that is held in its slot is so of each node.
--- found-in-slot: the label and the charge of the node that a search finds are read back from its slot.
+-- found_in_slot: the label and the charge of the node that a search finds are read back from its slot.
 use mathlib.Core.List.{◌∷◌, ◌++◌, map, map-append}
 use mathlib.Core.Path.{◌≡◌, refl, ap, ap₂}
 use Rattle.types.specs.declared.Limits.{Limits}

@@ -1,5 +1,5 @@
 -- Listings of a valid state written out.
--- lists-ascending: a listing with room gives the slots of the labels, in ascending order.
+-- lists_ascending: a listing with room gives the slots of the labels, in ascending order.
 use mathlib.Core.List.{List, ◌++◌}
 use mathlib.Core.Path.{◌≡◌, ap, ◌∙◌}
 use Prim.Native.Nat.{ℕ, ◌≤◌}

@@ -1,5 +1,5 @@
 -- Inserts of ascending labels into a sound table.
--- insert-above: a label above all that are held is inserted, where there is room, at the end of the map.
+-- insert_above: a label above all that are held is inserted, where there is room, at the end of the map.
 -- all_inserted: so are pairs as a file has them, one after the other.
 use mathlib.Core.Bool.{true}
 use mathlib.Core.List.{List, [], ◌∷◌, ◌++◌, append-nil, map-append}

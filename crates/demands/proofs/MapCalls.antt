@@ -1,5 +1,5 @@
 -- Searches and updates on a valid state written out are those of its map, for a label that fits.
--- search-looks-up: a search looks up. updates-map: an update inserts into the map, or removes from it.
+-- search_looks_up: a search looks up. updates_map: an update inserts into the map, or removes from it.
 use mathlib.Core.Bool.{false}
 use mathlib.Core.Path.{◌≡◌, refl, sym, ap, ◌∙◌}
 use Prim.Native.Nat.{ℕ}

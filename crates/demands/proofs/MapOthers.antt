@@ -1,5 +1,5 @@
 -- The plain ordered map, and the labels that a call does not name: what is held under them stays.
--- others-inserted, others-removed, others-charged: so where a pair is set in or taken out, and where a charge is set.
+-- others_inserted, others_removed, others_charged: so where a pair is set in or taken out, and where a charge is set.
 use mathlib.Core.Bool.{true}
 use mathlib.Core.List.{List, [], ◌∷◌}
 use mathlib.Core.Option.{none}

@@ -1,9 +1,9 @@
 -- The plain tree's steps are those of the ordered map, for a label that fits.
 -- step_past_label, step_of_fitting: a call with a label that fits is settled by the test of its charge, and past it by
 -- what its search found.
--- pair-of-answer, search-answered: a search says the pair held, and is not refused.
--- insert-reply, insert-map: an insert is refused or done as the map has it, and leaves the map with the new pair.
--- delete-reply, delete-map: a delete is refused or done as the map has it, and leaves the map without the label.
+-- pair_of_answer, search_answered: a search says the pair held, and is not refused.
+-- insert_reply, insert_map: an insert is refused or done as the map has it, and leaves the map with the new pair.
+-- delete_reply, delete_map: a delete is refused or done as the map has it, and leaves the map without the label.
 use mathlib.Core.List.{List, [], ◌∷◌}
 use mathlib.Core.Option.{none}
 use mathlib.Core.Path.{◌≡◌, refl, sym, ap, ◌∙◌}

@@ -1,5 +1,5 @@
 -- The slots of an absent answer, on a sound table and store, show the map's true neighbours.
--- true-neighbours: the nodes that a search passes last are the nearest of the map, and their slots show them.
+-- true_neighbours: the nodes that a search passes last are the nearest of the map, and their slots show them.
 use mathlib.Core.Option.{Option, none, some, map}
 use mathlib.Core.Path.{◌≡◌, refl}
 use Prim.Native.Nat.{ℕ, zero, suc, ◌≤◌}

@@ -1,7 +1,7 @@
 -- Sound tables and stores, as valid states written out.
 -- count_of_map: there are as many pairs in a tree's map as nodes in the tree.
--- of-sound: what is so of every valid state written out is so of every sound table and store.
--- sound-out, map-of-written: a valid state written out is sound, and holds the map of its tree.
+-- of_sound: what is so of every valid state written out is so of every sound table and store.
+-- sound_out, map_of_written: a valid state written out is sound, and holds the map of its tree.
 use mathlib.Core.Path.{◌≡◌, refl, sym, ap, subst, ◌∙◌}
 use lib.ListN.{length, length-map}
 use Rattle.types.specs.declared.Limits.{Limits}

@@ -1,5 +1,5 @@
 -- Memory of one index lent to a call of another.
--- wrong-table-refused: each call refuses a table of another length by 1.
+-- wrong_table_refused: each call refuses a table of another length by 1.
 use mathlib.Core.List.{List}
 use mathlib.Core.Path.{◌≡◌, refl}
 use mathlib.Core.Bool.{Bool, not}

@@ -1,5 +1,5 @@
 -- What is held under a label that a call does not name stays, on a valid state written out.
--- others-stay: so it is for every call.
+-- others_stay: so it is for every call.
 use mathlib.Core.Bool.{Bool, true, false}
 use mathlib.Core.List.{List, [], ◌∷◌}
 use mathlib.Core.Path.{◌≡◌, refl, ap, ◌∙◌}

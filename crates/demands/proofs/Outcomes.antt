@@ -2,8 +2,8 @@
 -- memory_passes, written_passes: memory of the right lengths, as a state written out, passes the first two lines of the
 -- table of refusals.
 -- answer_of_held: what a search finds is answered as the plain tree replies.
--- search-outcome: a search answers as the plain tree replies, with the counts of its steps.
--- update-outcome: so does an update, and it leaves the plain tree's state, written out.
+-- search_outcome: a search answers as the plain tree replies, with the counts of its steps.
+-- update_outcome: so does an update, and it leaves the plain tree's state, written out.
 use mathlib.Core.List.{List, [], ◌∷◌}
 use mathlib.Core.Path.{◌≡◌, refl}
 use mathlib.Core.Bool.{Bool, true, false}

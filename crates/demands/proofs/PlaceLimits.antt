@@ -1,6 +1,6 @@
 -- Limits on the places of a search, on a sound table and store.
 -- shared_limit: places are at most visits plus the most leading bytes shared with one label held.
--- within-larger, length-limit: what is within a limit is within every larger one; so within that by the label's length.
+-- within_larger, length_limit: what is within a limit is within every larger one; so within that by the label's length.
 use mathlib.Core.List.{List, [], map}
 use mathlib.Core.Path.{◌≡◌, refl, ap, ◌∙◌}
 use Prim.Native.Nat.{ℕ, ◌≤◌}

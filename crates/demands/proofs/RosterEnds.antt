@@ -1,7 +1,7 @@
 -- How a roster ends.
 -- went: at the tests that name no record, or as its records do, of which so many went in.
--- early-stops: those tests name record 0, and leave the memory. passed-is-short: a text that passes them is not too
--- long. none-taken: an empty text gives 0.
+-- early_stops: those tests name record 0, and leave the memory. passed_is_short: a text that passes them is not too
+-- long. none_taken: an empty text gives 0.
 use mathlib.Core.Bool.{Bool, true, false, not}
 use mathlib.Core.List.{List, []}
 use mathlib.Core.Path.{◌≡◌, refl}

@@ -1,5 +1,5 @@
 -- Saved files are taken.
--- saved-file-taken: the file of a sound table, of words of 16 bits, is taken, and holds the labels and values of its
+-- saved_file_taken: the file of a sound table, of words of 16 bits, is taken, and holds the labels and values of its
 -- map.
 use mathlib.Core.Bool.{true}
 use mathlib.Core.List.{List, [], ◌∷◌, map-map}

@@ -1,8 +1,8 @@
 -- Saved files of sound tables.
--- saves-map: a save with room writes the file of the map, one without is refused by 17; the file depends on the labels
+-- saves_map: a save with room writes the file of the map, one without is refused by 17; the file depends on the labels
 -- and the values alone, so a charge set changes none.
--- saving-of-sound: on a sound table only the length of the output is left to test.
--- saving-with-room: with room the file is written in front of the output.
+-- saving_of_sound: on a sound table only the length of the output is left to test.
+-- saving_with_room: with room the file is written in front of the output.
 use mathlib.Core.Bool.{Bool, true, false}
 use mathlib.Core.List.{List, ◌++◌}
 use mathlib.Core.Path.{◌≡◌, refl, sym, ap, ◌∙◌}

@@ -1,6 +1,6 @@
 -- The limit by shared bytes is sharp: with one label held every search reaches it.
--- only, valid-only: the state that holds one label, which is valid.
--- at-limit-with-one: its search steps examine as many places as they visit nodes and the labels share bytes.
+-- only, valid_only: the state that holds one label, which is valid.
+-- at_limit_with_one: its search steps examine as many places as they visit nodes and the labels share bytes.
 -- no_smaller_limit: so no limit that reads labels alone is smaller there.
 use mathlib.Core.List.{List, []}
 use mathlib.Core.Path.{◌≡◌, refl}

@@ -1,5 +1,5 @@
 -- Every list of calls on what layout left leaves a sound table and store.
--- sound-after: so it is where the depth is the deepest that the slots allow. sound-stays: on any sound memory too.
+-- sound_after: so it is where the depth is the deepest that the slots allow. sound_stays: on any sound memory too.
 use mathlib.Core.List.{List, [], ◌∷◌}
 use mathlib.Core.Path.{◌≡◌}
 use Prim.Native.Nat.{ℕ}

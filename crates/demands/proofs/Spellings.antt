@@ -1,6 +1,6 @@
 -- The spelling first stored stays, on every sound table.
 -- refused_leaves: an update that is refused leaves the memory as it was lent, whatever it holds.
--- spelling-stays: what search, insert and delete say and leave for a label under which a pair is held.
+-- spelling_stays: what search, insert and delete say and leave for a label under which a pair is held.
 use mathlib.Core.List.{List, ◌++◌}
 use mathlib.Core.Option.{none, some}
 use mathlib.Core.Path.{◌≡◌, refl, ◌∙◌}

@@ -1,6 +1,6 @@
 -- The lines of document 01 at a node of a sound table, against the step there.
 -- examining_more: a step with so many places more.
--- lines-at-node: the lines go as the step does, with a place more where the first line applies.
+-- lines_at_node: the lines go as the step does, with a place more where the first line applies.
 use mathlib.Core.Bool.{Bool, cond}
 use mathlib.Core.Path.{◌≡◌, ap, ◌∙◌}
 use Prim.Native.Nat.{ℕ, suc, ◌+◌, ◌-◌, ◌≤◌, Ordering}

@@ -1,6 +1,6 @@
 -- What the first line of the search steps saves, on a sound table and store.
 -- ThreeWalks: the walk now, the walk that counts the nodes where the line applies, and the walk before.
--- walks-into: these walks into each subtree. tie-saves: what the line saves.
+-- walks_into: these walks into each subtree. tie_saves: what the line saves.
 use mathlib.Core.List.{List}
 use mathlib.Core.Path.{◌≡◌, refl, sym, ap, ◌∙◌}
 use Prim.Native.Nat.{ℕ, zero, suc, ◌+◌, ◌≤◌}

@@ -1,5 +1,5 @@
 -- Where an update of a sound table ends, by its trace: what the outcome is there.
--- InsertLands, insert-lands: refused by 7 or 9, or done. DeleteLands, delete-lands: refused by 8, or done.
+-- InsertLands, insert_lands: refused by 7 or 9, or done. DeleteLands, delete_lands: refused by 8, or done.
 -- missed: where the trace found nothing, the label is absent. Traces: the trace is the way of the search.
 use mathlib.Core.List.{List, ◌∷◌}
 use mathlib.Core.Path.{◌≡◌, refl, sym, ap, ◌∙◌}

@@ -1,6 +1,6 @@
 -- The first 81 bytes of a line are enough.
---     kept-is-front  what is kept of a line is its front
---     front-asks     the front of a line asks what the line asks
+--     kept_is_front  what is kept of a line is its front
+--     front_asks     the front of a line asks what the line asks
 use mathlib.Core.Path.{◌≡◌, sym, ap, ◌∙◌}
 use mathlib.Core.List.{List, [], ◌∷◌, ◌++◌}
 use Prim.Native.Nat.{ℕ, ◌≤◌, ◌<◌}

@@ -1,7 +1,7 @@
 -- What is kept of the line that has begun.
 --     held_within        at most as many bytes are kept as there is room for
---     kept-with-room     where there is room the byte comes behind what is kept
---     kept-without-room  where there is none what is kept stays
+--     kept_with_room     where there is room the byte comes behind what is kept
+--     kept_without_room  where there is none what is kept stays
 use mathlib.Core.Path.{◌≡◌, sym, ◌∙◌}
 use mathlib.Core.List.{List, [], ◌∷◌, ◌++◌}
 use Prim.Native.Nat.{ℕ, ◌+◌, ◌≤◌, ◌<◌, min}

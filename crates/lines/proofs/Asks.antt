@@ -1,8 +1,8 @@
 -- What a line asks, by its length and its second byte.
---     long-asks-nothing      a line above 80 bytes asks nothing
---     short-asks-nothing     a line below 2 bytes asks nothing
---     unspaced-asks-nothing  a line whose second byte is no space asks nothing
---     asks-by-letter         another line asks what its letter says
+--     long_asks_nothing      a line above 80 bytes asks nothing
+--     short_asks_nothing     a line below 2 bytes asks nothing
+--     unspaced_asks_nothing  a line whose second byte is no space asks nothing
+--     asks_by_letter         another line asks what its letter says
 use mathlib.Core.Path.{◌≡◌, refl}
 use mathlib.Core.Bool.{cond}
 use mathlib.Core.List.{List, [], ◌∷◌}

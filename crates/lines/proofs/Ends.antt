@@ -1,7 +1,7 @@
 -- Where a label in a line ends.
---     label-goes-on       past a label byte the label goes on
---     label-stops         at another byte the label ends
---     label-stops-at-end  at the line's end the label ends
+--     label_goes_on       past a label byte the label goes on
+--     label_stops         at another byte the label ends
+--     label_stops_at_end  at the line's end the label ends
 --     label_at_front_lem      the label is the front of its length
 --     rest_after_label    what comes after the label is the rest from its length on
 use mathlib.Core.Path.{◌≡◌, refl, ap}

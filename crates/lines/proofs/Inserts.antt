@@ -1,8 +1,8 @@
 -- The insert that a line asks, after its label.
---     no-insert-at-end         with nothing after the label there is no insert
---     no-insert-unspaced       with another byte than a space there is none
---     insert-of-value          a space and a value make an insert
---     no-insert-without-value  a space and no value make none
+--     no_insert_at_end         with nothing after the label there is no insert
+--     no_insert_unspaced       with another byte than a space there is none
+--     insert_of_value          a space and a value make an insert
+--     no_insert_without_value  a space and no value make none
 use mathlib.Core.Path.{◌≡◌, refl, sym, ap, ◌∙◌}
 use mathlib.Core.Bool.{Bool, true, false, cond}
 use mathlib.Core.List.{List}

@@ -1,8 +1,8 @@
 -- What a line asks by its letter, where its label ends at a known place.
---     asks-insert    the letter I asks for an insert
---     asks-delete    the letter D, with nothing after the label, asks for a delete
---     asks-search    the letter S, with nothing after the label, asks for a search
---     asks-too-much  with another letter than I and something after the label, a line asks nothing
+--     asks_insert    the letter I asks for an insert
+--     asks_delete    the letter D, with nothing after the label, asks for a delete
+--     asks_search    the letter S, with nothing after the label, asks for a search
+--     asks_too_much  with another letter than I and something after the label, a line asks nothing
 --     asks_nothing   with another letter a line asks nothing
 use mathlib.Core.Path.{◌≡◌, refl, sym, ◌∙◌}
 use mathlib.Core.Bool.{Bool, true, false, cond}

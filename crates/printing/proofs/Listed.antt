@@ -1,7 +1,7 @@
 -- The lines of the labels held, by what the listing gives in a list of as many words as there are slots.
---     listed-count   the slots that it lists are at most as many
---     listed-put     the lines of these slots, put at a place, are those of the labels
---     unlisted-put   memory that it refuses has no lines
+--     listed_count   the slots that it lists are at most as many
+--     listed_put     the lines of these slots, put at a place, are those of the labels
+--     unlisted_put   memory that it refuses has no lines
 use mathlib.Core.Bool.{not}
 use mathlib.Core.List.{List, [], ◌++◌, map}
 use mathlib.Core.Path.{◌≡◌, refl, sym, ap}

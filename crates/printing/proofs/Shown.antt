@@ -1,5 +1,5 @@
 -- The label that the view shows.
---     view-short   it has at most 64 bytes
+--     view_short   it has at most 64 bytes
 --     shown_short  so has the part that the view returns
 use mathlib.Core.List.{List}
 use mathlib.Core.Path.{◌≡◌, refl}

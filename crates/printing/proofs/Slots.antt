@@ -1,7 +1,7 @@
 -- The lines of the labels in slots, put one after the other.
 --     slot_put     the label that the view shows, with its slot and its value, makes the line of a slot
 --     lines_start  of the lines of slots none is put at first
---     lines-go-on  the next one is put behind those before it
+--     lines_go_on  the next one is put behind those before it
 --     lines_end    with no slot left they are put
 use mathlib.Core.Path.{◌≡◌, refl}
 use mathlib.Core.List.{List, ◌++◌, map, append_assoc, append-nil}

@@ -1,7 +1,7 @@
 -- The nodes of a sound table, as the calls show them.
---     view-of-used     the view shows the label of a slot in use
---     shown-standing   the slots of a tree that stands in the table show its nodes
---     shown-of-sound   so do those of the tree that a sound table holds, which are at most as many as the slots
+--     view_of_used     the view shows the label of a slot in use
+--     shown_standing   the slots of a tree that stands in the table show its nodes
+--     shown_of_sound   so do those of the tree that a sound table holds, which are at most as many as the slots
 use mathlib.Core.Bool.{true}
 use mathlib.Core.List.{List, ◌∷◌, ◌++◌, map, map-append}
 use mathlib.Core.Path.{◌≡◌, refl, ap, ap₂, ◌∙◌}

@@ -1,9 +1,9 @@
 -- The lines of a printout put into a buffer, from their parts.
---     last-put     a number and a line end
---     taken-put    the word `ok` and a count make the line of a roster that went in
---     refused-put  the word `no`, a refusal's number, the word `record` and its number make the line of a refusal
---     label-put    a space, a label and a line end
---     line-put     a slot, a value and a label make the line of a label
+--     last_put     a number and a line end
+--     taken_put    the word `ok` and a count make the line of a roster that went in
+--     refused_put  the word `no`, a refusal's number, the word `record` and its number make the line of a refusal
+--     label_put    a space, a label and a line end
+--     line_put     a slot, a value and a label make the line of a label
 --     stopped_put  a roster that is refused has the line of the refusal
 use mathlib.Core.Path.{◌≡◌}
 use mathlib.Core.List.{List, [], ◌∷◌, ◌++◌}

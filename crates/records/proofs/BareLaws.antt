@@ -1,8 +1,8 @@
 -- A field that is not escaped, read byte by byte.
 --     Plain            the bytes so far are TEXTDATA
---     plain-begins, plain-goes-on    so they are at first, and after one TEXTDATA more
---     plain-stops, plain-stops-at-end    the field ends at another byte, and at the text's end
---     plain-inside     it lies inside the text
+--     plain_begins, plain_goes_on    so they are at first, and after one TEXTDATA more
+--     plain_stops, plain_stops_at_end    the field ends at another byte, and at the text's end
+--     plain_inside     it lies inside the text
 use mathlib.Core.Bool.{Bool, true, false}
 use mathlib.Core.List.{List, [], ◌∷◌, ◌++◌}
 use mathlib.Core.Path.{◌≡◌, sym, ap, ◌∙◌}

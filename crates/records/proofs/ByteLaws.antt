@@ -1,12 +1,12 @@
 -- Which bytes may stand in a field.
---     below-textdata      a byte below 32 is no TEXTDATA
---     above-textdata      a byte above 126 is none
---     comma-no-textdata   a comma is none
---     textdata-or-quote   a byte from 32 to 126 that is no comma is TEXTDATA, or a quote
---     textdata-inner      TEXTDATA may stand in an escaped field
---     comma-inner         so may a comma
---     cr-inner            and so may CR
---     lf-or-not-inner     of the other bytes only LF may
+--     below_textdata      a byte below 32 is no TEXTDATA
+--     above_textdata      a byte above 126 is none
+--     comma_no_textdata   a comma is none
+--     textdata_or_quote   a byte from 32 to 126 that is no comma is TEXTDATA, or a quote
+--     textdata_inner      TEXTDATA may stand in an escaped field
+--     comma_inner         so may a comma
+--     cr_inner            and so may CR
+--     lf_or_not_inner     of the other bytes only LF may
 --     quote_no_inner      what may stand there alone is no quote
 use mathlib.Core.Bool.{Bool, true, false, not, true≢false}
 use mathlib.Core.Path.{◌≡◌, sym}

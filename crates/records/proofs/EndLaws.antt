@@ -1,9 +1,9 @@
 -- Where a record ends.
---     end-at-end           at the text's end it ends there
---     no-end-without-cr    elsewhere it does not without CR
---     no-end-without-lf    nor without LF
---     end-after-line       with both it ends behind them
---     line-inside          and that is inside the text
+--     end_at_end           at the text's end it ends there
+--     no_end_without_cr    elsewhere it does not without CR
+--     no_end_without_lf    nor without LF
+--     end_after_line       with both it ends behind them
+--     line_inside          and that is inside the text
 use mathlib.Core.Bool.{Bool, true, false, not}
 use mathlib.Core.List.{List, [], ◌∷◌}
 use mathlib.Core.Option.{none, some}

@@ -1,6 +1,6 @@
 -- A field by the quote at its start, and an escaped one by the quote at its end.
---     not-closed, closed-here      what is read at the end of an escaped field
---     taken-escaped, taken-plain   a field is read after a quote, or as it stands
+--     not_closed, closed_here      what is read at the end of an escaped field
+--     taken_escaped, taken_plain   a field is read after a quote, or as it stands
 use mathlib.Core.Bool.{Bool, true, false}
 use mathlib.Core.List.{List, [], ◌∷◌}
 use mathlib.Core.Path.{◌≡◌, refl, sym, ◌∙◌}

@@ -1,9 +1,9 @@
 -- A content gathered byte by byte from a part in which quotes stand doubled.
---     alone-taken, last_taken, first_taken    how many bytes of the part are one of the content
+--     alone_taken, last_taken, first_taken    how many bytes of the part are one of the content
 --     Gathering        the front of the buffer, and what is left of the part, are the content
---     gather_begins, gather-goes-on    so it is at first, and after one byte more
---     gather-room      there is room for that byte
---     gather-ends      at the part's end the front of the buffer is the content
+--     gather_begins, gather_goes_on    so it is at first, and after one byte more
+--     gather_room      there is room for that byte
+--     gather_ends      at the part's end the front of the buffer is the content
 use mathlib.Core.Bool.{Bool, true, false, cond}
 use mathlib.Core.List.{List, [], ◌∷◌, ◌++◌, append-nil, append_assoc}
 use mathlib.Core.Path.{◌≡◌, refl, sym, ap, ◌∙◌}

@@ -1,10 +1,10 @@
 -- A record read at a position of a text, by its label and the byte after it.
---     label-broken     a label that is broken makes no record
---     label-alone      nor does one with no comma after it
---     label-then       after a comma the value is read
+--     label_broken     a label that is broken makes no record
+--     label_alone      nor does one with no comma after it
+--     label_then       after a comma the value is read
 --     label_inside     the label lies inside the text, and so does the place of the value
---     content-inside   the content of a field that is read lies inside the text
---     next-inside      and so does the position after it
+--     content_inside   the content of a field that is read lies inside the text
+--     next_inside      and so does the position after it
 use mathlib.Core.Bool.{Bool, true, false, not}
 use mathlib.Core.List.{List, [], ◌∷◌}
 use mathlib.Core.Path.{◌≡◌, refl, sym, ap, ◌∙◌}

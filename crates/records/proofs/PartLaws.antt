@@ -1,9 +1,9 @@
 -- A part of a text from a start to an end.
---     part-longer      a longer part is the part and the bytes after it
---     part-empty       a part of no bytes
---     part-then-rest   the part, and the rest after it, are the rest from its start on
---     length-of-part   how many bytes it has
---     even-content     a content of as many bytes as the part is the part itself
+--     part_longer      a longer part is the part and the bytes after it
+--     part_empty       a part of no bytes
+--     part_then_rest   the part, and the rest after it, are the rest from its start on
+--     length_of_part   how many bytes it has
+--     even_content     a content of as many bytes as the part is the part itself
 --     none_inside      what is not read lies inside the text
 use mathlib.Core.List.{List, [], ◌++◌}
 use mathlib.Core.Path.{◌≡◌, refl, sym, ap, ◌∙◌}

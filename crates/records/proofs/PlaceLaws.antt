@@ -1,9 +1,9 @@
 -- What stands at a position of a text.
---     nothing-stands     past the end no byte stands
---     stands-by-byte     before it the byte there is tested
---     stands-inside      where a byte stands, the position after it is inside the text
---     byte-and-rest      and the rest from there on is that byte and the rest after it
---     width-at-end, width_two, width-alone, width_one, width-none
+--     nothing_stands     past the end no byte stands
+--     stands_by_byte     before it the byte there is tested
+--     stands_inside      where a byte stands, the position after it is inside the text
+--     byte_and_rest      and the rest from there on is that byte and the rest after it
+--     width_at_end, width_two, width_alone, width_one, width_none
 --                        how many bytes are one of an escaped field's content, by what stands there
 use mathlib.Core.Bool.{Bool, true, false, cond, true≢false}
 use mathlib.Core.List.{List, [], ◌∷◌}

@@ -1,9 +1,9 @@
 -- An escaped field, read byte by byte of its content.
 --     Reading           the bytes so far are a content, of so many bytes
---     reading_begins, reading-goes-on    so they are at first, and after one byte of it more
+--     reading_begins, reading_goes_on    so they are at first, and after one byte of it more
 --     width_within      that byte stands in the text
---     reading-stops, reading-stops-at-end    what is read where the field stops
---     closed-inside, broken_inside    it lies inside the text
+--     reading_stops, reading_stops_at_end    what is read where the field stops
+--     closed_inside, broken_inside    it lies inside the text
 use mathlib.Core.Bool.{Bool, true, false, cond}
 use mathlib.Core.List.{List, [], ◌∷◌, ◌++◌, append-nil}
 use mathlib.Core.Path.{◌≡◌, refl, sym, ap, ◌∙◌}

@@ -1,8 +1,8 @@
 -- A record whose label is read, by its value and its end.
---     value-broken     a value whose field is broken makes no record
---     value-missing    nor does one that is no value
---     end-missing      nor one after which the record does not end
---     record-read      with both it is read
+--     value_broken     a value whose field is broken makes no record
+--     value_missing    nor does one that is no value
+--     end_missing      nor one after which the record does not end
+--     record_read      with both it is read
 --     nothing_inside   what is not read lies inside the text
 --     record_inside    and so does a record that is read
 use mathlib.Core.Bool.{true}

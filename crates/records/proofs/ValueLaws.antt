@@ -1,6 +1,6 @@
 -- The value that a content writes.
---     value-of-part       a content that is the part itself writes what the part writes
---     no-value-doubled    one in which quotes stand doubled writes none
+--     value_of_part       a content that is the part itself writes what the part writes
+--     no_value_doubled    one in which quotes stand doubled writes none
 use mathlib.Core.Bool.{Bool, true, false, ◌&&◌}
 use mathlib.Core.List.{List, [], ◌∷◌}
 use mathlib.Core.Option.{none}

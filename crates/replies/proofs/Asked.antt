@@ -1,5 +1,5 @@
 -- What is said to a line, by what it asks.
---     insert-replied, delete-replied, search-replied, bad-replied  by the call's outcome
+--     insert_replied, delete_replied, search_replied, bad_replied  by the call's outcome
 --     reply_put                                                    put as a line, for what is kept of the line
 use mathlib.Core.Path.{◌≡◌, refl}
 use mathlib.Core.List.{List}

@@ -1,6 +1,6 @@
 -- The nodes around one that is to be taken out, renewed.
 -- FieldsFor: the fields of the node that takes its place, where there are two sons.
--- Around: what is left around the node. around-node: `renewed_around` leaves that.
+-- Around: what is left around the node. around_node: `renewed_around` leaves that.
 use mathlib.Core.List.{List, [], ◌++◌, append-nil}
 use mathlib.Core.Path.{◌≡◌, refl, ◌∙◌}
 use mathlib.Core.Bool.{true, false}

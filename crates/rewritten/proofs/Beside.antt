@@ -1,7 +1,7 @@
 -- What stays beside a son whose nodes are renewed, and beside a node that is renewed alone.
--- son-stays: a son stays where the node alone is renewed.
--- node_stays, other-stays: the node and its other son stay where one son's nodes are renewed.
--- renews-son: that touches slots of the node's tree.
+-- son_stays: a son stays where the node alone is renewed.
+-- node_stays, other_stays: the node and its other son stay where one son's nodes are renewed.
+-- renews_son: that touches slots of the node's tree.
 use mathlib.Core.List.{List, [], ◌∷◌}
 use Prim.Native.Nat.{ℕ}
 use native.Mathlib.Omega.{arith}

@@ -1,6 +1,6 @@
 -- A slot freed: its row put in front of the free chain, its bytes cleared.
 -- FreedWords, freed_words: the table once a slot is freed and the labels counted.
--- length_cleared, part-cleared, part-past-cleared: the store with a part cleared is as long as before; that part is the
+-- length_cleared, part_cleared, part_past_cleared: the store with a part cleared is as long as before; that part is the
 -- part of no bytes, and the others stay.
 use mathlib.Core.List.{List, [], ◌∷◌, append-nil}
 use mathlib.Core.Path.{◌≡◌, refl, ap, ◌∙◌}

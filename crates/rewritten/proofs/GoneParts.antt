@@ -1,5 +1,5 @@
 -- The store where a node was found and its bytes are cleared.
--- written-parts: its parts are those of the plain tree's next state.
+-- written_parts: its parts are those of the plain tree's next state.
 use mathlib.Core.List.{List, [], ◌∷◌}
 use mathlib.Core.Path.{◌≡◌, ◌∙◌}
 use mathlib.Core.Logic.{◌≢◌}

@@ -1,5 +1,5 @@
 -- The table where a node was found and is taken out, and its slot freed.
--- written-rows: its words are those of the plain tree's next state.
+-- written_rows: its words are those of the plain tree's next state.
 use mathlib.Core.List.{List, ◌∷◌}
 use mathlib.Core.Path.{◌≡◌, refl, ap, subst, ◌∙◌}
 use Prim.Native.Nat.{ℕ, ◌-◌, ◌≤◌, ◌<◌}

@@ -1,7 +1,7 @@
 -- The labels of a tree's nodes, in the store and as neighbours.
 -- LabelStored, LabelsStored: the label of a node, and of each node of a tree, stands in its slot's part of the store.
--- Named: a node's slot holds its label. named-standing, named-least: so does that of a node that stands, and of the
--- smallest node of a tree. below-named, above-named: such a node is the neighbour in its slot.
+-- Named: a node's slot holds its label. named_standing, named_least: so does that of a node that stands, and of the
+-- smallest node of a tree. below_named, above_named: such a node is the neighbour in its slot.
 use mathlib.Core.List.{List}
 use mathlib.Core.Path.{◌≡◌, refl, ap, ◌∙◌}
 use Prim.Native.Nat.{ℕ, zero, suc, ◌≤◌}

@@ -1,5 +1,5 @@
 -- Delete along a path, with the fields that were found for the node that takes the found one's place.
--- fields-along: it is delete with that node's fields, as they do not matter where the found node has no left son.
+-- fields_along: it is delete with that node's fields, as they do not matter where the found node has no left son.
 use mathlib.Core.List.{List, [], ◌∷◌}
 use mathlib.Core.Path.{◌≡◌}
 use Prim.Native.Nat.{ℕ}

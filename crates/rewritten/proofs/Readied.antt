@@ -1,7 +1,7 @@
 -- A tree in the rows made ready for a node to be taken out.
 -- left_of: the left subtree of the node found. RepBy: the tree at a node, by the comparison with its label.
 -- Ready: the tree as it stands then, and the fields of the next node.
--- ready-to-delete: `renewed_around` at the node found makes the tree ready.
+-- ready_to_delete_lem: `renewed_around` at the node found makes the tree ready.
 use mathlib.Core.List.{List}
 use mathlib.Core.Path.{◌≡◌}
 use Prim.Native.Nat.{ℕ}

@@ -2,9 +2,9 @@
 -- Renews: an update that leaves every slot's label length, and the rows of the slots that it does not touch.
 -- root_within: the root's slot is one of the tree's.
 -- renews_none, renews_both, renews_wider: nothing done, two such updates one after the other, more slots touched.
--- below-renewed, above-renewed: the neighbours in two slots stay.
--- fields-between: the fields of a node between the neighbours in two slots.
--- renews-one: a renewed node is such an update. renewed-stands: it stands between the neighbours in the two slots.
+-- below_renewed, above_renewed: the neighbours in two slots stay.
+-- fields_between: the fields of a node between the neighbours in two slots.
+-- renews_one: a renewed node is such an update. renewed_stands: it stands between the neighbours in the two slots.
 use mathlib.Core.List.{List, [], ◌∷◌}
 use mathlib.Core.Path.{◌≡◌, refl, ◌∙◌}
 use Prim.Native.Nat.{ℕ, zero, suc, ◌≤◌}

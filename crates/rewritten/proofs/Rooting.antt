@@ -1,6 +1,6 @@
 -- A valid state written out, with the root's place counted as 0.
--- labels-of-written: the labels stand in the written-out store.
--- rep-of-written: the tree stands as turned. renews-of-root: no label's length is touched.
+-- labels_of_written: the labels stand in the written-out store.
+-- rep_of_written: the tree stands as turned. renews_of_root: no label's length is touched.
 use mathlib.Core.List.{List, [], ◌∷◌}
 use mathlib.Core.Path.{◌≡◌}
 use Prim.Native.Nat.{ℕ, ◌≤◌}

@@ -1,6 +1,6 @@
 -- The two spines beside a node that is to be taken out, renewed.
--- right-spine: the subtree to the left of the node stands in a window that ends at the node that comes next.
--- left-spine: in the subtree to its right every node but the smallest has the smallest as its neighbour below.
+-- right_spine: the subtree to the left of the node stands in a window that ends at the node that comes next.
+-- left_spine: in the subtree to its right every node but the smallest has the smallest as its neighbour below.
 -- least_from_lem: the smallest node's slot is found.
 use mathlib.Core.List.{List, []}
 use mathlib.Core.Path.{◌≡◌, refl, sym, subst⁻¹, ◌∙◌}

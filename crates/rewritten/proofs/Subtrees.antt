@@ -1,5 +1,5 @@
 -- A subtree before its nodes are renewed, and the slots of its neighbours.
--- Subtree: a tree in the rows of a table, with its labels in a store. left-son, right-son: its sons are such trees.
+-- Subtree: a tree in the rows of a table, with its labels in a store. left_son, right_son: its sons are such trees.
 -- Window: two slots hold the neighbours.
 use mathlib.Core.List.{List}
 use mathlib.Core.Path.{◌≡◌}

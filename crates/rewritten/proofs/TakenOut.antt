@@ -1,5 +1,5 @@
 -- The found node taken out of the tree in a written-out table, before its slot is freed.
--- TurnedTo, TakenOut: what is left then. found-slot: the trace ends at the slot found. taken_out: delete in the words
+-- TurnedTo, TakenOut: what is left then. found_slot: the trace ends at the slot found. taken_out: delete in the words
 -- leaves that.
 use mathlib.Core.List.{List}
 use mathlib.Core.Path.{◌≡◌, ◌∙◌}

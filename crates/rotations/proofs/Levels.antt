@@ -2,7 +2,7 @@
 -- near_link: the row of a node has the link of its son on a side.
 -- refines_of_son: a son alone takes the place of its parent.
 -- Deeper: a node whose son was updated.
--- grown-level, shrunk-level: the node put in balance is the update of the tree, seen from the table before both.
+-- grown_level, shrunk_level: the node put in balance is the update of the tree, seen from the table before both.
 use mathlib.Core.List.{List}
 use mathlib.Core.Path.{◌≡◌, sym, ap}
 use mathlib.Core.Bool.{Bool, false}

@@ -1,6 +1,6 @@
 -- The node that takes the place of one with two sons: the smallest of the right son.
--- next-table: the table with that node's row stored in the place of e.
--- Next, next-refines: that node, put in balance in the place of e, is the tree without e.
+-- next_table: the table with that node's row stored in the place of e.
+-- Next, next_refines: that node, put in balance in the place of e, is the tree without e.
 use mathlib.Core.List.{List, [], ◌∷◌}
 use mathlib.Core.Path.{◌≡◌, ap, ◌∙◌}
 use mathlib.Core.Bool.{true}

@@ -2,8 +2,8 @@
 -- frame_of_put: a stored row touches its own slot.
 -- Within: the slots of one list are among those of another.
 -- frame_both: two updates one after the other.
--- stands-framed, rep-apart: a node, and a tree, whose slots an update does not touch stand after it.
--- refines-after: an outcome seen from an earlier table.
+-- stands_framed, rep_apart: a node, and a tree, whose slots an update does not touch stand after it.
+-- refines_after: an outcome seen from an earlier table.
 use mathlib.Core.List.{List, [], ◌∷◌}
 use mathlib.Core.Path.{◌≡◌, ◌∙◌}
 use mathlib.Core.Bool.{Bool}

@@ -1,7 +1,7 @@
 -- The bytes of an input as they come, and its end.
---     took-end, took-byte       what a byte makes of what was said and kept
---     takes-on, takes-last      the bytes of a read, one after the other
---     ends-begun, ends-unbegun  the input's end
+--     took_end, took_byte       what a byte makes of what was said and kept
+--     takes_on, takes_last      the bytes of a read, one after the other
+--     ends_begun, ends_unbegun  the input's end
 use mathlib.Core.Path.{◌≡◌, refl}
 use mathlib.Core.List.{List, [], ◌∷◌}
 use Prim.Native.Nat.{ℕ, ◌+◌, ◌≤◌, ◌<◌}

@@ -1,7 +1,7 @@
 -- The tree that was read stands in the rows and parts of its slots.
--- length-of-part: a slot's part of the store is as long as the width.
--- length-of-label: the label read from a slot has the length read for it.
--- represents-read: the tree that was read stands in its slots' rows and parts.
+-- length_of_part: a slot's part of the store is as long as the width.
+-- length_of_label: the label read from a slot has the length read for it.
+-- represents_read: the tree that was read stands in its slots' rows and parts.
 use mathlib.Core.List.{List}
 use mathlib.Core.Path.{◌≡◌, sym, ap}
 use mathlib.Core.Bool.{true}

@@ -1,7 +1,7 @@
 -- Each part of a sound store is the label that the tree read from it writes, padded with zeros.
--- tree-part-read: a slot's part is what the tree writes, where the other slots' parts are what is written otherwise.
+-- tree_part_read: a slot's part is what the tree writes, where the other slots' parts are what is written otherwise.
 -- chain_part_read: the parts of the freed slots are zero. zero_part_above: so are the parts above the high mark.
--- fitting-read: the labels' lengths fit. charges_read: the nodes have charges.
+-- fitting_read: the labels' lengths fit. charges_read: the nodes have charges.
 use mathlib.Core.List.{List, [], ◌∷◌, ◌++◌, map-append}
 use mathlib.Core.Path.{◌≡◌, refl, ap, ◌∙◌}
 use mathlib.Core.Bool.{Bool, true, false, cond}

@@ -1,6 +1,6 @@
 -- Each row of a sound table is the row that the tree and the chain read from it write.
--- tree-row-read: a slot's row is what the tree writes, where the rows of the other slots are what is written otherwise.
--- chain-row-read: so it is for the chain.
+-- tree_row_read: a slot's row is what the tree writes, where the rows of the other slots are what is written otherwise.
+-- chain_row_read: so it is for the chain.
 -- zero_row_above: the rows above the high mark are all zero.
 use mathlib.Core.List.{List, [], ◌∷◌}
 use mathlib.Core.Path.{◌≡◌, refl, sym, ap, ◌∙◌}

@@ -1,7 +1,7 @@
 -- Lists of zeros, and parts of a store that end in zeros.
--- zero_at: every word of an all-zero list is 0.
--- zeros_dropped, zeros_taken: the end and the front of an all-zero list are all-zero.
--- zeros_are_padding: an all-zero part is the part of no bytes.
+-- zero_at: every word of an all_zero list is 0.
+-- zeros_dropped, zeros_taken: the end and the front of an all_zero list are all_zero.
+-- zeros_are_padding: an all_zero part is the part of no bytes.
 -- padded_by_zeros: a part that is zero after its first bytes is those bytes, padded.
 use mathlib.Core.List.{List, [], ◌∷◌}
 use mathlib.Core.Path.{◌≡◌, refl, ap}
@@ -15,25 +15,25 @@ use Rattle.trees.proofs.Views.{both_true}
 use Rattle.tables.specs.Sound.{all_zero}
 use Rattle.written.proofs.Chunks.{padded}
 
--- The first word of an all-zero list is 0, and the others are all-zero.
+-- The first word of an all_zero list is 0, and the others are all_zero.
 first_zero : (n : ℕ) (more : List ℕ) → all_zero (n ∷ more) ≡ true → (n ≡ 0) × (all_zero more ≡ true)
 first_zero n more zeros =
     let (first, rest) = (both_true (eqb n 0) (all_zero more)).0 zeros in
     (eqb-true n 0 first, rest)
 
--- Every word of an all-zero list is 0.
+-- Every word of an all_zero list is 0.
 pub zero_at : (list : List ℕ) → all_zero list ≡ true → (i : ℕ) → get_or list i 0 ≡ 0
 zero_at [] zeros i = refl
 zero_at (n ∷ more) zeros zero = (first_zero n more zeros).0
 zero_at (n ∷ more) zeros (suc i) = zero_at more (first_zero n more zeros).1 i
 
--- What is left of an all-zero list is all-zero.
+-- What is left of an all_zero list is all_zero.
 pub zeros_dropped : (m : ℕ) (list : List ℕ) → all_zero list ≡ true → all_zero (drop m list) ≡ true
 zeros_dropped zero list zeros = zeros
 zeros_dropped (suc m) [] zeros = refl
 zeros_dropped (suc m) (n ∷ more) zeros = zeros_dropped m more (first_zero n more zeros).1
 
--- The front of an all-zero list is all-zero.
+-- The front of an all_zero list is all_zero.
 pub zeros_taken : (m : ℕ) (list : List ℕ) → all_zero list ≡ true → all_zero (take m list) ≡ true
 zeros_taken zero list zeros = refl
 zeros_taken (suc m) [] zeros = refl
@@ -41,7 +41,7 @@ zeros_taken (suc m) (n ∷ more) zeros =
     let parts = first_zero n more zeros in
     rw parts.0 (zeros_taken m more parts.1)
 
--- An all-zero list of a part's length is the part of no bytes.
+-- An all_zero list of a part's length is the part of no bytes.
 pub zeros_are_padding : (width : ℕ) (part : List ℕ) → length part ≡ width → all_zero part ≡ true
     → part ≡ padded width []
 zeros_are_padding zero [] long zeros = refl

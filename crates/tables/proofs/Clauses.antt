@@ -1,6 +1,6 @@
 -- The soundness test, taken apart into what each part of it says.
 -- SoundParts, parts_of_test, test_of_parts: what the test says of the whole.
--- SoundRead, read-of-sound, sound-of-read: what soundness says: that a tree and a chain are read and pass the test.
+-- SoundRead, read_of_sound, sound_of_read: what soundness says: that a tree and a chain are read and pass the test.
 -- UsedSlot, used_of_test: what it says of a slot in use. FreedSlot, freed_of_test: what it says of a freed slot.
 use mathlib.Core.List.{List, ◌∷◌, ◌++◌}
 use mathlib.Core.Path.{◌≡◌, refl}

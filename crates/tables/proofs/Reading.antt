@@ -1,6 +1,6 @@
 -- What is read from the links of a table, as a relation between a link and what stands at it.
 -- Stands: a tree stands at a link, each node in a slot of the table; Follows: a chain of slots goes on from a link.
--- tree-read, chain-read: what is read stands at its link.
+-- tree_read, chain_read: what is read stands at its link.
 -- link_of_standing, link_of_following: the link is the one of what stands there.
 -- stands_when_read, follows_when_read: a tree that is read stands at its link, and a chain goes on from it.
 -- read_when_follows: a chain that goes on from a link, and is not too long, is read there.

@@ -1,17 +1,17 @@
 -- The line of an answer put into a buffer, from its parts.
 --     roomier       room for more bytes does no harm
 --     number_put    a space and the digits make a number
---     counts-put    two numbers and a line end make the counts
---     answer-put    a number and the counts
---     refusal-put   the word `no`, a number and a line end make the line of a refusal
---     found-put     the word `found`, a value and the counts make the line of a search that found
---     absent-put    the word `absent` and the counts make the line of a search that did not
---     unsearched-put  a search that is refused has the line of the refusal
---     updated-put   the word `ok`, a slot and the counts make the line of an update
---     unchanged-put   an update that is refused has the line of the refusal
---     update-said     what is said by an update's answer has the answer's line
---     search-said     what is said by a search's answer has the answer's line
---     bad-said        to a line that asks nothing the word `bad` and a line end are said
+--     counts_put    two numbers and a line end make the counts
+--     answer_put    a number and the counts
+--     refusal_put   the word `no`, a number and a line end make the line of a refusal
+--     found_put     the word `found`, a value and the counts make the line of a search that found
+--     absent_put    the word `absent` and the counts make the line of a search that did not
+--     unsearched_put  a search that is refused has the line of the refusal
+--     updated_put   the word `ok`, a slot and the counts make the line of an update
+--     unchanged_put   an update that is refused has the line of the refusal
+--     update_said     what is said by an update's answer has the answer's line
+--     search_said     what is said by a search's answer has the answer's line
+--     bad_said        to a line that asks nothing the word `bad` and a line end are said
 use mathlib.Core.Path.{◌≡◌}
 use mathlib.Core.List.{List, [], ◌∷◌, ◌++◌}
 use Prim.Native.Nat.{ℕ, ◌≤◌}

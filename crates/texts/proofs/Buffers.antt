@@ -3,11 +3,11 @@
 --     put_starts       before the first byte nothing is put
 --     put_last         a byte put behind a text makes the text longer by one
 --     put_then         a text put behind another makes one text
---     put-goes-on      the next byte of a text is put behind the first ones
---     put-ends         with no byte left the text is put
---     put-no-digits    no digits write nothing
---     put-one-digit    one digit writes a number below 10
---     put-more-digits  a number of 10 and more is its tenth and its last digit
+--     put_goes_on      the next byte of a text is put behind the first ones
+--     put_ends         with no byte left the text is put
+--     put_no_digits    no digits write nothing
+--     put_one_digit    one digit writes a number below 10
+--     put_more_digits  a number of 10 and more is its tenth and its last digit
 use mathlib.Core.Path.{◌≡◌, refl, sym, ◌∙◌}
 use mathlib.Core.List.{List, [], ◌∷◌, ◌++◌, append_assoc, append-nil}
 use Prim.Native.Nat.{ℕ, zero, suc, ◌+◌, ◌-◌, ◌/◌, ◌%◌, ◌≤◌, ◌<◌}

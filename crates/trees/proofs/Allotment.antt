@@ -1,5 +1,5 @@
 -- The slots of the tree and the freed ones: insert and delete move one slot between them.
--- exactly-when-reused, exactly-when-raised, exactly_when_freed: the slots in the tree and freed stay exactly 1 to high.
+-- exactly_when_reused, exactly_when_raised, exactly_when_freed: the slots in the tree and freed stay exactly 1 to high.
 use mathlib.Core.List.{List, ◌∷◌, ◌++◌}
 use mathlib.Core.Path.{◌≡◌, sym, ap, ◌∙◌}
 use Prim.Native.Nat.{ℕ, suc, ◌+◌, ◌≤◌}

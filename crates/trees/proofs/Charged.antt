@@ -1,6 +1,6 @@
 -- The charge of a label set: what stays of the tree, and that charges stay charges.
--- mapped-charged, labels-of-charged, slots-of-charged, size-of-charged: what a node gives besides its charge stays.
--- height-of-charged, balanced-charged: so do the height and the height rule.
+-- mapped_charged, labels_of_charged, slots_of_charged, size_of_charged: what a node gives besides its charge stays.
+-- height_of_charged, balanced_charged: so do the height and the height rule.
 -- charges_of_node: a tree has charges exactly where its root and its sons have. charge_of_node: so each node has.
 -- charges_of_inserted, charges_of_deleted, charges_of_charged: the nodes have charges of 0 to 100 or 255 still.
 use mathlib.Core.Bool.{true, ◌&&◌, and_assoc}

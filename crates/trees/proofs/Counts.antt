@@ -2,8 +2,8 @@
 -- occurrences_append: the counts of two lists add up.
 -- member_occurs: a member of a list occurs at least once.
 -- Exactly: the list holds each of 1 to high once, and nothing more. exactly_of_test, test_of_exactly: that is the test.
--- Outside: a number that is none of 1 to high; outside-never-occurs: such a number does not occur.
--- occurs-inside, occurs-at-most-once: what occurs is one of 1 to high, and occurs once.
+-- Outside: a number that is none of 1 to high; outside_never_occurs: such a number does not occur.
+-- occurs_inside, occurs_at_most_once: what occurs is one of 1 to high, and occurs once.
 -- occurs_in_one_part: what occurs in one part of the list does not occur in the other.
 use mathlib.Core.List.{List, [], ◌∷◌, ◌++◌, Memᴰ}
 use mathlib.Core.Path.{◌≡◌, refl, ap}

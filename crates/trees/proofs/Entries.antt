@@ -2,7 +2,7 @@
 -- entries_of_rebalanced: rebalancing keeps the nodes in order.
 -- least_then_rest: the smallest node, then the nodes without it.
 -- entries_of_joined: joined sons hold the nodes of both, in order.
--- mapped-node, mapped-rebalanced, mapped-least, mapped-joined: so for what each node gives, as its label or its slot.
+-- mapped_node, mapped_rebalanced, mapped_least, mapped_joined: so for what each node gives, as its label or its slot.
 -- length_of_entries: there are as many nodes in the list as in the tree.
 use mathlib.Core.List.{List, ◌∷◌, ◌++◌, map, map-append, append_assoc, append-nil}
 use mathlib.Core.Bool.{Bool, true, false}

@@ -1,8 +1,8 @@
 -- What insert and delete keep of the labels: their order and their lengths.
 -- Fits: each label has a length from 1 to width; fits_of_test, test_of_fits: that is the test.
--- labels-of-inserted, labels-of-deleted: the labels are those of the map with the pair set in, or taken out.
--- ascends-of-inserted, ascends-of-deleted: the labels still ascend.
--- fits-of-inserted, fits-of-deleted: the labels' lengths still fit.
+-- labels_of_inserted, labels_of_deleted: the labels are those of the map with the pair set in, or taken out.
+-- ascends_of_inserted, ascends_of_deleted: the labels still ascend.
+-- fits_of_inserted, fits_of_deleted: the labels' lengths still fit.
 use mathlib.Core.List.{List, [], ◌∷◌}
 use mathlib.Core.Path.{◌≡◌, refl}
 use mathlib.Core.Bool.{true, ◌&&◌}

@@ -1,7 +1,7 @@
 -- A tree with ascending labels holds a plain ordered map; its search, insert and delete, and a charge set in it, are
 -- those of the map.
--- lookup-of-search: the full search finds what the map holds.
--- map-of-inserted, map-of-deleted, map-of-charged: insert and delete on the tree, and a charge set, are those on the
+-- lookup_of_search: the full search finds what the map holds.
+-- map_of_inserted, map_of_deleted, map_of_charged: insert and delete on the tree, and a charge set, are those on the
 -- map.
 -- keys_of_map: the map has the tree's labels.
 use mathlib.Core.List.{◌∷◌, ◌++◌, map-append, map-map}

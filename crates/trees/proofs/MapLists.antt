@@ -1,6 +1,6 @@
 -- The plain ordered map, as a list.
 -- lookup_past, insertion_past, removal_past, charging_past: pairs with smaller labels are passed over.
--- lookup-before, insertion-before, removal-before, charging-before: from a pair with a larger label on nothing is read
+-- lookup_before, insertion_before, removal_before, charging_before: from a pair with a larger label on nothing is read
 -- or changed.
 use mathlib.Core.List.{List, [], ◌∷◌, ◌++◌, map}
 use mathlib.Core.Path.{◌≡◌, refl}

@@ -1,5 +1,5 @@
 -- Rotations keep the height rule, argued once for both sides.
--- settled-rebalanced: `rebalanced` settles a node whose sons' heights differ by at most two.
+-- settled_rebalanced: `rebalanced` settles a node whose sons' heights differ by at most two.
 -- settled_on: so it does whichever of the sons is on the left.
 -- balanced_rebalanced: `rebalanced` of two balanced trees whose heights differ by at most two is balanced.
 use mathlib.Core.Path.{◌≡◌}

@@ -1,9 +1,9 @@
 -- The slots of the tree's nodes, and how many they are.
--- slot-set-in, length-set-in: an entry set in adds its slot, and makes the list longer by one.
+-- slot_set_in, length_set_in: an entry set in adds its slot, and makes the list longer by one.
 -- occurrences_of_node: a slot is a node's own or stands in one of its sons.
--- occurrences-of-inserted, occurrences-of-deleted: the tree's slots gain the new node's slot, or lose the found node's.
--- size-of-inserted, size-of-deleted: the size goes up or down by one.
--- slot-of-found: the found node's slot is a slot of the tree.
+-- occurrences_of_inserted, occurrences_of_deleted: the tree's slots gain the new node's slot, or lose the found node's.
+-- size_of_inserted, size_of_deleted: the size goes up or down by one.
+-- slot_of_found: the found node's slot is a slot of the tree.
 -- length_of_slots: there are as many slots as nodes.
 use mathlib.Core.List.{List, [], ◌∷◌, ◌++◌, map, map-append}
 use mathlib.Core.Path.{◌≡◌, refl, sym, ap, ◌∙◌}

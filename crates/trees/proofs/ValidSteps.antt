@@ -1,7 +1,7 @@
 -- Every state that calls leave is valid.
--- valid-fresh: the fresh state is valid.
--- exactly-of-valid: the slots of a valid state are exactly 1 to its high mark.
--- valid-of-charge, valid-after: a charge set leaves a valid state valid, and so does every call.
+-- valid_fresh: the fresh state is valid.
+-- exactly_of_valid: the slots of a valid state are exactly 1 to its high mark.
+-- valid_of_charge, valid_after: a charge set leaves a valid state valid, and so does every call.
 use mathlib.Core.List.{List, [], ◌∷◌, ◌++◌}
 use mathlib.Core.Path.{◌≡◌, refl, ap, ◌∙◌}
 use mathlib.Core.Bool.{Bool, true, false}

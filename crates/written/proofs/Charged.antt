@@ -1,7 +1,7 @@
 -- A charge set in the words leaves the plain tree's next state written out.
--- link-of-charged: the root's slot stays. label-of-charged: so does every slot's label.
--- row-besides, row-of-found: so does the row of every slot but the found node's, which has the charge.
--- charge-written: word 7 of the found node's slot stored is the plain tree's next state written out.
+-- link_of_charged: the root's slot stays. label_of_charged: so does every slot's label.
+-- row_besides, row_of_found: so does the row of every slot but the found node's, which has the charge.
+-- charge_written: word 7 of the found node's slot stored is the plain tree's next state written out.
 use mathlib.Core.List.{List, [], ◌++◌}
 use mathlib.Core.Logic.{◌≢◌}
 use mathlib.Core.Path.{◌≡◌, refl, sym, ap, ◌∙◌}
