@@ -1,8 +1,8 @@
 -- What is read of a text prints what the whole text prints: `prints_read`.
-use mathlib.Core.Path.{◌≡◌, refl, ap, sym, ◌∙◌}
+use mathlib.Core.Path.{◌≡◌, refl, ap}
 use mathlib.Core.Bool.{Bool, true, false, not}
-use mathlib.Core.List.{List, [], ◌++◌, append-nil}
-use Prim.Native.Nat.{ℕ, ◌≤◌, ◌<◌}
+use mathlib.Core.List.{List}
+use Prim.Native.Nat.{ℕ, ◌<◌}
 use native.Mathlib.Omega.{arith}
 use borrow.Author.Tests.{lt-ltb, ltb-true, ltb-false}
 use lib.Dec.{eqb, ltb}
@@ -14,7 +14,7 @@ use Rattle.std.specs.declared.option.Option.{Option}
 use Rattle.std.specs.Io.KnownBytes.{Appends}
 use Rattle.types.specs.Sizes.{hub, table_length, store_length}
 use Rattle.tables.specs.Written.{Memory, lent}
-use Rattle.tables.specs.Outcomes.{pass, refuse, line}
+use Rattle.tables.specs.Outcomes.{refuse, line}
 use Rattle.rfc4180.specs.Rosters.{RosterOutcome, longest_text, roster_by, roster_outcome}
 use Rattle.inputs.specs.Inputs.{fresh}
 use Rattle.printouts.specs.Printouts.{printed_for, printout}

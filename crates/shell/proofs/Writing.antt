@@ -10,14 +10,12 @@ use lib.ListN.{length}
 use Rattle.std.specs.Prelude.{None, Some, Ok, Err, OnOk}
 use Rattle.std.specs.declared.result.Result.{Result}
 use Rattle.std.specs.declared.option.Option.{Option}
-use Rattle.std.specs.Io.KnownBytes.{Appends, Consumes}
 use Rattle.types.specs.Sizes.{hub, table_length, store_length}
 use Rattle.types.specs.Answers.{Answer}
-use Rattle.tables.specs.Written.{Memory}
 use Rattle.tables.specs.Outcomes.{layout_outcome}
 use Rattle.tables.specs.Given.{Gives}
 use Rattle.lines.specs.Commands.{asks}
-use Rattle.inputs.specs.Inputs.{reply_to, fresh, printed}
+use Rattle.inputs.specs.Inputs.{reply_to, fresh}
 use Rattle.inputs.specs.Reads.{Shell, Progress, kept, replied, next, after, taken, ended, said_for}
 use Rattle.inputs.proofs.Fresh.{layout_is_fresh}
 use Rattle.inputs.proofs.ReadsPrint.{reads_print}

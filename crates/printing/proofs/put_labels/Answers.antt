@@ -1,5 +1,5 @@
 -- The slots that the listing gives are within the list, and their lines are those of the labels held.
-use Rattle.std.proofs.Common.{◌≡◌, refl, arith, length-take}
+use Rattle.std.proofs.Common.{refl, arith, length-take}
 use Rattle.printing.proofs.Listed.{listed_count, listed_put, unlisted_put}
 use Rattle.printing.proofs.put_labels.Goals as goal
 

@@ -1,5 +1,5 @@
 -- What has been read lies at the front of the text. The measure is the room that is left.
-use Rattle.std.proofs.Common.{◌≡◌, ◌-◌, ◌≤◌, length, take}
+use Rattle.std.proofs.Common.{◌-◌, ◌≤◌, length, take}
 use Rattle.std.specs.Io.KnownBytes.{Consumes}
 use Rattle.printing.proofs.pipes.read_full.Given as goal
 
