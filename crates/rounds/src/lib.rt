@@ -3,9 +3,9 @@
 
 pub mod calls;
 mod hub;
-pub mod loads;
+pub mod loading;
 mod page;
-pub mod saves;
+pub mod saving;
 pub mod states;
 
 use comparisons::{answers, judged};

@@ -1,5 +1,5 @@
 // The groups of loads of small files, cut short at each byte, or with one byte changed.
-use crate::loads;
+use crate::loading;
 use images::memory::Image;
 use images::outputs::Output;
 use images::{memory, outputs};
@@ -56,7 +56,7 @@ fn cut_short(out: Stdout, image: &Image, file: &Output, n: usize) -> io::Result<
     let end = std::num::wrapping_add_usize(n, 2);
     for i in 0..end {
         let changed = tallies::one_more_if(tally, CHANGES, i != n);
-        let counted = loads::tried(out, image, file, i, ANY_REFUSAL, changed)?;
+        let counted = loading::tried(out, image, file, i, ANY_REFUSAL, changed)?;
         tally = counted;
     }
     Ok(tally)
@@ -89,7 +89,7 @@ fn change(
         return Ok(tally);
     }
     let changed = tallies::one_more(tally, CHANGES);
-    loads::tried(out, image, &copy, n, ANY_REFUSAL, changed)
+    loading::tried(out, image, &copy, n, ANY_REFUSAL, changed)
 }
 
 fn put(file: &mut Output, at: usize, way: usize) {

@@ -1,5 +1,5 @@
 // The groups of calls on damaged memory: sound tables with words, bytes, rows or links changed.
-use crate::{saves, sequences};
+use crate::{saving, sequences};
 use images::memory;
 use images::memory::Image;
 use plans::changes;
@@ -97,7 +97,7 @@ fn drawn(
     if !changes::make(image, &mut copy, kind, seed) {
         return Ok(tally);
     }
-    saves::on_damaged(out, &copy, seed, saved)?;
+    saving::on_damaged(out, &copy, seed, saved)?;
     every(out, &copy, shape, kind, seed, tally)
 }
 

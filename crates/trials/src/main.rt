@@ -6,12 +6,12 @@
 mod cuts;
 mod damage;
 mod edges;
-mod files;
+mod file_edges;
 mod lent;
-mod loads;
-mod saves;
+mod loading;
+mod saving;
 mod sequences;
-mod written;
+mod written_files;
 
 use images::memory::Image;
 use images::sizes::Sizes;
@@ -35,16 +35,16 @@ fn run_index(out: Stdout, sizes: Sizes) -> io::Result<()> {
     run(out, &mut image, &mut map)?;
     lent::run(out, &image)?;
     edges::run(out, &image)?;
-    saves::run_lent(out, &image)?;
-    written::run_lent(out, &image)?;
-    files::run(out, &mut image, &mut map)?;
+    saving::run_lent(out, &image)?;
+    written_files::run_lent(out, &image)?;
+    file_edges::run(out, &mut image, &mut map)?;
     run_files(out, &image)
 }
 
 // The groups of files that no table was saved as.
 fn run_files(out: Stdout, image: &Image) -> io::Result<()> {
     cuts::run(out, image)?;
-    written::run(out, image)
+    written_files::run(out, image)
 }
 
 fn run(out: Stdout, image: &mut Image, map: &mut Lists) -> io::Result<()> {

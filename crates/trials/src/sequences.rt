@@ -1,5 +1,5 @@
 // The groups of calls on sound tables, made and counted, and of the hub's with saves and loads among them.
-use crate::{loads, saves};
+use crate::{loading, saving};
 use images::memory;
 use images::memory::Image;
 use plainmap::lists::Lists;
@@ -67,8 +67,8 @@ fn after(
     saved: &mut Tally,
     loaded: &mut Tally,
 ) -> io::Result<()> {
-    saves::after(out, image, map, i, saved)?;
-    loads::after(out, image, map, i, loaded)
+    saving::after(out, image, map, i, saved)?;
+    loading::after(out, image, map, i, loaded)
 }
 
 fn call(

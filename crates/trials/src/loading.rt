@@ -1,6 +1,6 @@
 // The loads, into memory that is full of other things: of what sound tables were saved as, of files at an edge, and of
 // any file for the other groups. The hub's index alone has them.
-use crate::{saves, sequences};
+use crate::{saving, sequences};
 use images::memory::Image;
 use images::outputs::Output;
 use images::{memory, outputs};
@@ -37,8 +37,8 @@ pub fn after(
 // Saves a table, loads the file into other memory, and saves that.
 pub fn saved(out: Stdout, image: &Image, map: &Lists, tally: Tally) -> io::Result<Tally> {
     let mut file = outputs::fresh();
-    let round = rounds::saves::into(image, map, &mut file, outputs::ALL);
-    let counted = saves::count(out, round, tally)?;
+    let round = rounds::saving::into(image, map, &mut file, outputs::ALL);
+    let counted = saving::count(out, round, tally)?;
     saved_again(out, image, &file, round.written, counted)
 }
 
@@ -53,7 +53,7 @@ fn saved_again(
     let mut copy = *image;
     let mut map = [0u16; 35910];
     let loaded = into(out, &mut copy, file, n, 0, &mut map, tally)?;
-    saves::count(out, rounds::saves::again(&copy, &map, file), loaded)
+    saving::count(out, rounds::saving::again(&copy, &map, file), loaded)
 }
 
 // Loads the first bytes of a file, so many, which is to have a refusal's number, into memory of an image's lengths full
@@ -68,7 +68,7 @@ fn into(
     tally: Tally,
 ) -> io::Result<Tally> {
     memory::spoil(image, numbers::mixed(n, refusal));
-    let round = rounds::loads::made(image, file, n, map);
+    let round = rounds::loading::made(image, file, n, map);
     count(out, round, refusal, plainmap::held(map), tally)
 }
 

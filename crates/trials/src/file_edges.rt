@@ -1,6 +1,6 @@
 // The groups of saves of tables whose files are at an edge, each beside the number of bytes that its file is to have,
 // and of loads of these files.
-use crate::{loads, saves, sequences};
+use crate::{loading, saving, sequences};
 use images::memory::Image;
 use images::outputs::Output;
 use images::{memory, outputs};
@@ -32,7 +32,7 @@ fn run_group(out: Stdout, image: &mut Image, map: &mut Lists, group: usize) -> i
     for i in 0..n {
         let counted = table(out, image, map, files::table(group, i), tally)?;
         tally = counted;
-        loads::at_edge(out, image, map, &mut loaded)?;
+        loading::at_edge(out, image, map, &mut loaded)?;
     }
     print(out, files::shape(group), group, tally, loaded)
 }
@@ -106,8 +106,8 @@ fn charge_each(
     tally: Tally,
 ) -> io::Result<Tally> {
     let mut before = outputs::fresh();
-    let round = rounds::saves::into(image, map, &mut before, outputs::ALL);
-    let mut after = saves::count(out, round, tally)?;
+    let round = rounds::saving::into(image, map, &mut before, outputs::ALL);
+    let mut after = saving::count(out, round, tally)?;
     let n = edge.labels;
     for k in 0..n {
         let counted = charge(out, image, map, edge, k, &before, after)?;
@@ -126,7 +126,7 @@ fn charge(
     tally: Tally,
 ) -> io::Result<Tally> {
     let charged = on_label(out, image, map, SET_CHARGE, edge, k, tally)?;
-    saves::count(out, rounds::saves::again(image, map, before), charged)
+    saving::count(out, rounds::saving::again(image, map, before), charged)
 }
 
 // Makes a save into an output of each length, where the file is to have so many bytes.
@@ -140,8 +140,8 @@ fn save_all(
     let mut after = tally;
     for i in 0..lengths::OUTPUTS {
         let room = lengths::output(i, bytes);
-        let round = as_named(rounds::saves::made(image, map, room), bytes, room);
-        let counted = saves::count(out, round, after)?;
+        let round = as_named(rounds::saving::made(image, map, room), bytes, room);
+        let counted = saving::count(out, round, after)?;
         after = counted;
     }
     Ok(after)

@@ -1,5 +1,5 @@
 // The groups of loads of files written out, and of some of these into memory of other lengths.
-use crate::loads;
+use crate::loading;
 use images::memory::Image;
 use images::{memory, outputs};
 use plans::planned::ANY_REFUSAL;
@@ -45,7 +45,7 @@ fn load(
     if n == written::NO_FILE {
         return Ok(tally);
     }
-    loads::tried(out, image, &file, n, refusal, tally)
+    loading::tried(out, image, &file, n, refusal, tally)
 }
 
 // Loads the first file of each group into memory of each pair of lengths, and prints their line.

@@ -60,7 +60,7 @@ fn in_turn(
     tally: Tally,
 ) -> io::Result<Tally> {
     let room = lengths::output(turn % lengths::TURNS, files::length(map));
-    count(out, rounds::saves::made(image, map, room), tally)
+    count(out, rounds::saving::made(image, map, room), tally)
 }
 
 // Counts a save, which moves no count of labels; where it has a fault it is printed.
@@ -95,5 +95,5 @@ fn lent(out: Stdout, image: &Image, map: &Lists, k: usize, tally: Tally) -> io::
     }
     let room = lengths::output(k % lengths::OUTPUTS, files::length(map));
     let changed = tallies::one_more_if(tally, CHANGES, !memory::same(image, &copy));
-    count(out, rounds::saves::made(&copy, map, room), changed)
+    count(out, rounds::saving::made(&copy, map, room), changed)
 }
