@@ -3,7 +3,7 @@
 
 usage: turn_proofs.py NAME [--again]     at the top of the repository; --again writes Answers.antt anew
 
-Each Proof.antt moves to /tmp/oldproofs/<repository>/NAME/; its invariants and measures are respelled; what the check
+Each Proof.antt moves to the folder oldproofs/<repository>/NAME/ of the system's temporary folder; its invariants and measures are respelled; what the check
 leaves open is answered by the old answer, respelled: places are flat now (`c.before.before.f` is `c.f`), and a goal
 has its new name. What does not fit is left for the hand, and the check says so.
 """
@@ -591,7 +591,7 @@ def clause_answers(crate, said, wanted):
 def main():
     crate = sys.argv[1]
     proofs = os.path.join(ROOT, "crates", crate, "proofs")
-    store = os.path.join("/tmp/oldproofs", os.path.basename(ROOT), crate)
+    store = os.path.join(tempfile.gettempdir(), "oldproofs", os.path.basename(ROOT), crate)
     os.makedirs(store, exist_ok=True)
     found = []
     for d, dirs, fs in os.walk(proofs):

@@ -2,7 +2,6 @@
 use Rattle.std.specs.Prelude.{List, ◌≡◌, ℕ, length}
 use Rattle.types.specs.declared.Limits.{Limits}
 use Rattle.types.specs.Answers.{refused}
-use Rattle.tables.specs.Written.{Memory}
 use Rattle.tables.specs.Outcomes.{Outcome, Listing, Verdict, pass, refuse, view_verdict, view_part}
 use Rattle.views.specs.Parts.{view_start}
 use Rattle.files.specs.Saves.{Saving}
@@ -10,14 +9,11 @@ use Rattle.files.specs.Loads.{Loading}
 use Rattle.rfc4180.specs.Rosters.{RosterOutcome}
 use Rattle.packs.specs.Packed.{packed, packed_save, packed_load, packed_roster, packed_part}
 
--- a call that may change the table and the store: the number that it is to give, and the memory that it is to leave
-pub record PacksAs (number : ℕ) (m : Memory) (given : ℕ) (words bytes : List ℕ) : Type 0 where
-  pub answer : given ≡ number
-  pub table : words ≡ m.table
-  pub store : bytes ≡ m.store
-
-abbrev pub Packs : Outcome → (given : ℕ) (words bytes : List ℕ) → Type 0
-Packs outcome given words bytes = PacksAs (packed outcome.answer) outcome.memory given words bytes
+-- a call that may change the table and the store
+pub record Packs (outcome : Outcome) (given : ℕ) (words bytes : List ℕ) : Type 0 where
+  pub answer : given ≡ packed outcome.answer
+  pub table : words ≡ outcome.memory.table
+  pub store : bytes ≡ outcome.memory.store
 
 -- a listing
 pub record PacksList (listing : Listing) (given : ℕ) (words : List ℕ) : Type 0 where
@@ -30,12 +26,16 @@ pub record PacksSave (saving : Saving) (given : ℕ) (bytes : List ℕ) : Type 0
   pub output : bytes ≡ saving.output
 
 -- a load
-abbrev pub PacksLoad : Loading → (given : ℕ) (words bytes : List ℕ) → Type 0
-PacksLoad loading given words bytes = PacksAs (packed_load loading.answer) loading.memory given words bytes
+pub record PacksLoad (loading : Loading) (given : ℕ) (words bytes : List ℕ) : Type 0 where
+  pub answer : given ≡ packed_load loading.answer
+  pub table : words ≡ loading.memory.table
+  pub store : bytes ≡ loading.memory.store
 
 -- a roster
-abbrev pub PacksRoster : RosterOutcome → (given : ℕ) (words bytes : List ℕ) → Type 0
-PacksRoster outcome given words bytes = PacksAs (packed_roster outcome.answer) outcome.memory given words bytes
+pub record PacksRoster (outcome : RosterOutcome) (given : ℕ) (words bytes : List ℕ) : Type 0 where
+  pub answer : given ≡ packed_roster outcome.answer
+  pub table : words ≡ outcome.memory.table
+  pub store : bytes ≡ outcome.memory.store
 
 -- the view's two calls in one number: the part's start and length, or the refusal
 abbrev pub viewed_by : Verdict → (start len : ℕ) → ℕ
