@@ -22,7 +22,7 @@ dquote = 34
 abbrev pub is_textdata : ℕ → Bool
 is_textdata byte = (leb 32 byte && leb byte 33) || ((leb 35 byte && leb byte 43) || (leb 45 byte && leb byte 126))
 
--- "non_escaped = *TEXTDATA"
+-- "non-escaped = *TEXTDATA"
 pub data NonEscaped : (bytes : List ℕ) → Type 0 where
   none : NonEscaped []
   one : (byte : ℕ) (bytes : List ℕ) → is_textdata byte ≡ true → NonEscaped bytes → NonEscaped (byte ∷ bytes)
@@ -38,7 +38,7 @@ pub data Inner : (content bytes : List ℕ) → Type 0 where
       → Inner (byte ∷ content) (byte ∷ bytes)
   two_quotes : (content bytes : List ℕ) → Inner content bytes → Inner (dquote ∷ content) (dquote ∷ dquote ∷ bytes)
 
--- "field = (escaped / non_escaped)"; "escaped = DQUOTE *(TEXTDATA / COMMA / CR / LF / 2DQUOTE) DQUOTE"
+-- "field = (escaped / non-escaped)"; "escaped = DQUOTE *(TEXTDATA / COMMA / CR / LF / 2DQUOTE) DQUOTE"
 pub data Field : (content bytes : List ℕ) → Type 0 where
   escaped : (content bytes : List ℕ) → Inner content bytes → Field content (dquote ∷ (bytes ++ (dquote ∷ [])))
   non_escaped : (bytes : List ℕ) → NonEscaped bytes → Field bytes bytes
