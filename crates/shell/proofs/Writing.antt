@@ -1,13 +1,16 @@
 -- What is written for what is read.
 --     writes_on         some bytes are read before the others
+--     TurnsFit          there were no more turns than bytes read, where those are known
+--     turns_on          and so it stays when one more turn reads on
 --     prints_from_laid  from what layout left on it is what the whole input prints
 use mathlib.Core.Path.{◌≡◌, refl, ap, sym, ◌∙◌}
 use mathlib.Core.Bool.{Bool, true, false, cond}
 use mathlib.Core.List.{List, [], ◌∷◌, ◌++◌, append_assoc, append-nil}
-use Prim.Native.Nat.{ℕ}
+use Prim.Native.Nat.{ℕ, ◌+◌, ◌≤◌}
+use native.Mathlib.Omega.{arith}
 use lib.Dec.{eqb}
-use lib.ListN.{length}
-use Rattle.std.specs.Prelude.{None, Some, Ok, Err, OnOk}
+use lib.ListN.{length, length-append}
+use Rattle.std.specs.Prelude.{⊤, None, Some, Ok, Err, OnOk}
 use Rattle.std.specs.declared.result.Result.{Result}
 use Rattle.std.specs.declared.option.Option.{Option}
 use Rattle.types.specs.Sizes.{hub, table_length, store_length}
@@ -20,7 +23,7 @@ use Rattle.inputs.specs.Reads.{Shell, Progress, kept, replied, next, after, take
 use Rattle.inputs.proofs.Fresh.{layout_is_fresh}
 use Rattle.inputs.proofs.ReadsPrint.{reads_print}
 use Rattle.replies.specs.Replies.{memory_of}
-use Rattle.shell.specs.Pipes.{Writes, PrintsAll, ReadsOn}
+use Rattle.shell.specs.Pipes.{IsShort, Writes, PrintsAll, ReadsOn}
 
 -- what was said before goes before what is said later
 abbrev said : List ℕ → Progress → Progress
@@ -84,6 +87,21 @@ writes_on (Some xs) (Some ys) (Some cs) (Some ds) (Some es) s t on writes =
     ∙ ap (λ (l : List ℕ). cs ++ l) (sym (cut s on.bytes ys))
     ∙ ap (λ (l : List ℕ). cs ++ said_for s (l ∷ [])) (sym on.read)
 
+-- at least as many bytes as there were turns are gone
+abbrev pub TurnsFit : (left leaves : Option (List ℕ)) (turns : ℕ) → Type 0
+TurnsFit None leaves turns = ⊤
+TurnsFit (Some xs) None turns = ⊥
+TurnsFit (Some xs) (Some ys) turns = turns + length ys ≤ length xs
+
+pub turns_on : (left leaves later held holds : Option (List ℕ)) (s t : Shell) (turns : ℕ)
+    → TurnsFit left leaves turns → ReadsOn leaves later held holds s t → TurnsFit left later (turns + 1)
+turns_on None leaves later held holds s t turns fit on = tt
+turns_on (Some xs) None later held holds s t turns fit on = absurd fit
+turns_on (Some xs) (Some ys) None held holds s t turns fit on = absurd on.read
+turns_on (Some xs) (Some ys) (Some zs) held holds s t turns fit on =
+    let grown : length ys ≡ length on.bytes + length zs = ap length on.read ∙ length-append on.bytes zs in
+    omega (arith, fit, on.some, grown)
+
 prints_all : (left held holds : Option (List ℕ))
     → Writes left (record { memory = fresh; line = [] }) held holds → PrintsAll left held holds
 prints_all None held holds writes = tt
@@ -96,7 +114,7 @@ module _ (table store words bytes : List ℕ) (answer : Answer) (table_is : leng
 
   -- from what layout left on
   pub prints_from_laid : {A E : Type 0} (r : Result A E) (left held holds : Option (List ℕ))
-      → OnOk r (Writes left (record { memory = memory_of words bytes; line = [] }) held holds)
-      → OnOk r (PrintsAll left held holds)
-  prints_from_laid (Ok x) left held holds writes = prints_all left held holds (rw laid at writes)
+      → OnOk r (IsShort left → Writes left (record { memory = memory_of words bytes; line = [] }) held holds)
+      → OnOk r (IsShort left → PrintsAll left held holds)
+  prints_from_laid (Ok x) left held holds writes = λ short. prints_all left held holds (rw laid at (writes short))
   prints_from_laid (Err e) left held holds writes = tt

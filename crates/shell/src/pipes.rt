@@ -5,15 +5,17 @@ ghost use Rattle.std.specs.Io.KnownBytes.{IsAtEnd, Appends};
 ghost use Rattle.inputs.specs.Reads.{taken, ended};
 ghost use Rattle.replies.specs.Replies.{memory_of};
 ghost use Rattle.shell.specs.Shells.{shell_of};
-ghost use Rattle.shell.specs.Pipes.{Writes, PrintsAll, ReadsOn};
+ghost use Rattle.shell.specs.Pipes.{IsShort, Writes, PrintsAll, ReadsOn};
 
 use keeps::Line;
 use std::io;
 use std::io::{Read, Write};
 
-// Answers an input, up to its end. Where the bytes of both are known, what is written is what the whole input prints.
+// Answers an input, up to its end. Where the bytes of both are known, and the input's are fewer than 2^64 - 1, what is
+// written is what the whole input prints.
 pub fn run<R: Read, W: Write>(input: &mut R, output: &mut W) -> io::Result<()>
-    ensures { OnOk result (PrintsAll (R.remaining input.old)
+    ensures { OnOk result (IsShort (R.remaining input.old)
+        → PrintsAll (R.remaining input.old)
         (W.contents output.old) (W.contents output.new)) }
 {
     let mut table = [0u16; 4100];
@@ -30,14 +32,15 @@ struct After {
 }
 
 // Answers the whole input. A proved loop has to end, and nothing says that the input does: so the loop counts its
-// turns, up to a number that no run uses up.
+// turns, up to a number that no run uses up. Each turn but the last reads a byte at least.
 fn answer_all<R: Read, W: Write>(
     input: &mut R,
     output: &mut W,
     table: &mut [u16],
     store: &mut [u8],
 ) -> io::Result<()>
-    ensures { OnOk result (Writes (R.remaining input.old)
+    ensures { OnOk result (IsShort (R.remaining input.old)
+        → Writes (R.remaining input.old)
         (record { memory = memory_of table.old store.old; line = [] })
         (W.contents output.old) (W.contents output.new)) }
 {
@@ -49,7 +52,7 @@ fn answer_all<R: Read, W: Write>(
         }
         line = after.line;
     }
-    Err(io::Error::from(io::ErrorKind::Other))
+    Ok(())
 }
 
 // Reads once, and answers what was read, or the input's end.
