@@ -5,16 +5,17 @@
 -- `first_line`, `second_line`, `neither_line`: of two lines by what is not so, the first that applies.
 -- `memory_refused`, `memory_passed`: a refusal by a lent length is the call's; past it the lines below decide.
 -- `sizes_passed`, `sizes_fit`, `label_passed`: past them the table and the store have their sizes, and the label fits.
--- `label_unread`, `label_tested`: what is said where a label is tested besides.
+-- `label_unread`, `label_empty`, `label_long`, `label_taken`: what is said where a label is tested besides.
+-- `label_tested`: the same, by an answer that is the label's own.
 -- `lengths_refused`, `lengths_passed`, `lengths_fit_lem`: the same of both.
 use mathlib.Core.List.{List}
 use mathlib.Core.Bool.{Bool, true, false, not}
 use mathlib.Core.Path.{◌≡◌, refl, sym, ap, ◌∙◌}
-use Prim.Native.Nat.{ℕ}
+use Prim.Native.Nat.{ℕ, ◌≤◌, ◌<◌}
 use native.Mathlib.Omega.{arith}
 use lib.Dec.{eqb, ltb}
 use lib.ListN.{length}
-use borrow.Author.Tests.{not-false, eqb-true, eqb-false, ltb-false}
+use borrow.Author.Tests.{not-false, eqb-true, eqb-false, ltb-false, eq-eqb, ne_eqb, lt-ltb, le-ltb}
 use Rattle.types.specs.declared.Limits.{Limits}
 use Rattle.types.specs.declared.Refusal.{Refusal}
 use Rattle.types.specs.Sizes.{table_length, store_length}
@@ -137,6 +138,18 @@ module _ (limits : Limits) (table store : List ℕ) where
       pub label_tested : early ≡ Pass → (said : Early) → early_says said ≡ of_label limits x pass
           → early_says said ≡ of_memory limits table store (of_label limits x pass)
       label_tested passed said says_label = says_label ∙ sym (memory_passed passed (of_label limits x pass))
+
+      module _ (passed : early ≡ Pass) where
+        pub label_empty : length x ≡ 0 → refuse 3 ≡ of_memory limits table store (of_label limits x pass)
+        label_empty none = rw (memory_passed passed (of_label limits x pass), eq-eqb _ _ none)
+
+        pub label_long : (length x ≡ 0 → ⊥) → limits.width < length x
+            → refuse 4 ≡ of_memory limits table store (of_label limits x pass)
+        label_long some long = rw (memory_passed passed (of_label limits x pass), ne_eqb _ _ some, lt-ltb _ _ long)
+
+        pub label_taken : (length x ≡ 0 → ⊥) → length x ≤ limits.width
+            → pass ≡ of_memory limits table store (of_label limits x pass)
+        label_taken some short = rw (memory_passed passed (of_label limits x pass), ne_eqb _ _ some, le-ltb _ _ short)
 
   module _ (x : Label) where
     abbrev lengths_before : Verdict → Verdict

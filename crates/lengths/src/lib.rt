@@ -42,7 +42,13 @@ pub fn with_label(limits: Limits, table: &[u16], store: &[u8], label: &[u8]) -> 
     let Early::Pass = memory else {
         return memory;
     };
-    of_length(limits, label.len())
+    if label.len() == 0 {
+        return Early::Refused(Refusal::EmptyLabel);
+    }
+    if limits.width < label.len() {
+        return Early::Refused(Refusal::LongLabel);
+    }
+    Early::Pass
 }
 
 // Refuses an empty label by 3, and one that is too long by 4, by its length.

@@ -33,11 +33,12 @@ of_memory limits table store below =
     (line (not (eqb (length store) (store_length limits))) 2 below)
 
 -- "label: 3, length 0; 4, length above 64"
+abbrev pub of_label : Limits → Label → Verdict → Verdict
+of_label limits x below = line (eqb (length x) 0) 3 (line (ltb limits.width (length x)) 4 below)
+
+-- the same by a length alone, where there is no label to lend
 abbrev pub of_length : Limits → ℕ → Verdict → Verdict
 of_length limits n below = line (eqb n 0) 3 (line (ltb limits.width n) 4 below)
-
-abbrev pub of_label : Limits → Label → Verdict → Verdict
-of_label limits x below = of_length limits (length x) below
 
 -- "Checks: 24, a charge neither 0 to 100 nor 255, after 4" (M-109 of document 02)
 abbrev pub of_charge : Call → Verdict → Verdict
