@@ -1,14 +1,13 @@
 -- What a call answers, in the numbers of document 01 ('Updates' and 'Where each call turns away').
-use Rattle.std.specs.Prelude.{ℕ}
+use Rattle.std.specs.Prelude.{ℕ, Result, Ok, Err}
 use Rattle.types.specs.declared.Refusal.{Refusal}
 use Rattle.types.specs.declared.Refusal.TheVariants.{WrongTable, WrongStore, LongText, BrokenFile}
 use Rattle.types.specs.declared.Refusal.TheVariants.{NotAscending, BytesAfter, BrokenRecord, EmptyLabel}
 use Rattle.types.specs.declared.Refusal.TheVariants.{LongLabel, WrongCharge, WrongSlot, BrokenWalk, NotSound}
 use Rattle.types.specs.declared.Refusal.TheVariants.{AlreadyHeld, NotHeld, Full, ShortList, ShortOutput}
-use Rattle.types.specs.declared.SearchAnswer as search
-use Rattle.types.specs.declared.UpdateAnswer as update
-use Rattle.types.specs.declared.DoneAnswer as plain
-use Rattle.types.specs.declared.ListAnswer as list
+use Rattle.types.specs.declared.Searched.{Searched}
+use Rattle.types.specs.declared.Searched.TheVariants.{Found, Absent}
+use Rattle.types.specs.declared.Updated.{Updated}
 
 -- "A search answer is one of found with slot, value and both counts, absent with both counts, or a refusal; a delete or
 -- insert gives the slot and its search's counts"; layout, the check and the view's first call "answer only that they
@@ -47,19 +46,19 @@ refusal_number NotAscending = 19
 refusal_number BytesAfter = 20
 refusal_number WrongCharge = 24
 
-abbrev pub search_says : search.SearchAnswer → Answer
-search_says (search.TheVariants.Found slot value visits places) = found slot value visits places
-search_says (search.TheVariants.Absent below above visits places) = absent below above visits places
-search_says (search.TheVariants.Refused r) = refused (refusal_number r)
+abbrev pub search_says : Result Searched Refusal → Answer
+search_says (Ok (Found slot value visits places)) = found slot value visits places
+search_says (Ok (Absent below above visits places)) = absent below above visits places
+search_says (Err r) = refused (refusal_number r)
 
-abbrev pub update_says : update.UpdateAnswer → Answer
-update_says (update.TheVariants.Updated slot visits places) = updated slot visits places
-update_says (update.TheVariants.Refused r) = refused (refusal_number r)
+abbrev pub update_says : Result Updated Refusal → Answer
+update_says (Ok u) = updated u.slot u.visits u.places
+update_says (Err r) = refused (refusal_number r)
 
-abbrev pub done_says : plain.DoneAnswer → Answer
-done_says plain.TheVariants.Done = done
-done_says (plain.TheVariants.Refused r) = refused (refusal_number r)
+abbrev pub done_says : Result Unit Refusal → Answer
+done_says (Ok _) = done
+done_says (Err r) = refused (refusal_number r)
 
-abbrev pub list_says : list.ListAnswer → Answer
-list_says (list.TheVariants.Listed count) = listed count
-list_says (list.TheVariants.Refused r) = refused (refusal_number r)
+abbrev pub list_says : Result ℕ Refusal → Answer
+list_says (Ok count) = listed count
+list_says (Err r) = refused (refusal_number r)

@@ -6,7 +6,7 @@ ghost use Rattle.types.specs.Sizes.{hub, page};
 ghost use Rattle.types.specs.Answers.{refusal_number};
 
 // The sizes of an index: slots of the table, bytes of a label, nodes on a path from the root.
-#[derive(Clone, Copy)]
+#[derive(Clone, Copy, Debug, PartialEq, Eq)]
 pub struct Limits {
     pub slots: usize,
     pub width: usize,
@@ -14,7 +14,7 @@ pub struct Limits {
 }
 
 // The eight words of a slot.
-#[derive(Clone, Copy)]
+#[derive(Clone, Copy, Debug, PartialEq, Eq)]
 pub struct Row {
     pub left: u16,
     pub right: u16,
@@ -26,58 +26,42 @@ pub struct Row {
     pub charge: u16,
 }
 
-// Why a call is refused, in the order in which the reasons are looked for.
-#[derive(Clone, Copy)]
+// Why a call is refused, with the paper's numbers, in the order in which the reasons are looked for.
+#[derive(Clone, Copy, Debug, PartialEq, Eq)]
 pub enum Refusal {
-    WrongTable,
-    WrongStore,
-    LongText,
-    BrokenFile,
-    NotAscending,
-    BytesAfter,
-    BrokenRecord,
-    EmptyLabel,
-    LongLabel,
-    WrongCharge,
-    WrongSlot,
-    BrokenWalk,
-    NotSound,
-    AlreadyHeld,
-    NotHeld,
-    Full,
-    ShortList,
-    ShortOutput,
+    WrongTable = 1,
+    WrongStore = 2,
+    LongText = 12,
+    BrokenFile = 18,
+    NotAscending = 19,
+    BytesAfter = 20,
+    BrokenRecord = 13,
+    EmptyLabel = 3,
+    LongLabel = 4,
+    WrongCharge = 24,
+    WrongSlot = 11,
+    BrokenWalk = 5,
+    NotSound = 6,
+    AlreadyHeld = 7,
+    NotHeld = 8,
+    Full = 9,
+    ShortList = 10,
+    ShortOutput = 17,
 }
 
-// The number of a refusal.
-pub fn number_of(refusal: Refusal) -> usize
-    ensures { result ≡ refusal_number refusal }
-{
-    match refusal {
-        Refusal::WrongTable => 1,
-        Refusal::WrongStore => 2,
-        Refusal::EmptyLabel => 3,
-        Refusal::LongLabel => 4,
-        Refusal::BrokenWalk => 5,
-        Refusal::NotSound => 6,
-        Refusal::AlreadyHeld => 7,
-        Refusal::NotHeld => 8,
-        Refusal::Full => 9,
-        Refusal::ShortList => 10,
-        Refusal::WrongSlot => 11,
-        Refusal::LongText => 12,
-        Refusal::BrokenRecord => 13,
-        Refusal::ShortOutput => 17,
-        Refusal::BrokenFile => 18,
-        Refusal::NotAscending => 19,
-        Refusal::BytesAfter => 20,
-        Refusal::WrongCharge => 24,
+impl Refusal {
+    // The number of a refusal.
+    pub fn number(self) -> usize
+        ensures { result ≡ refusal_number self }
+    {
+        self as usize
     }
 }
 
-// What a search says. With absent go the slots of the nearest smaller and the nearest larger label held, 0 for none.
-#[derive(Clone, Copy)]
-pub enum SearchAnswer {
+// What a search says that is not refused. With absent go the slots of the nearest smaller and the nearest larger label
+// held, 0 for none.
+#[derive(Clone, Copy, Debug, PartialEq, Eq)]
+pub enum Searched {
     Found {
         slot: usize,
         value: u16,
@@ -90,54 +74,23 @@ pub enum SearchAnswer {
         visits: usize,
         places: usize,
     },
-    Refused(Refusal),
 }
 
-// What an insert, a delete or a charge set says: the label's slot, and the counts of the search that it made.
-#[derive(Clone, Copy)]
-pub enum UpdateAnswer {
-    Updated {
-        slot: usize,
-        visits: usize,
-        places: usize,
-    },
-    Refused(Refusal),
+// What an insert, a delete or a charge set says that is not refused: the label's slot, and the counts of the search that
+// it made.
+#[derive(Clone, Copy, Debug, PartialEq, Eq)]
+pub struct Updated {
+    pub slot: usize,
+    pub visits: usize,
+    pub places: usize,
 }
 
-// What a call says that has nothing else to tell: layout, the check, the first call of the view.
-#[derive(Clone, Copy)]
-pub enum DoneAnswer {
-    Done,
-    Refused(Refusal),
-}
-
-// What a listing says: how many slots it wrote.
-#[derive(Clone, Copy)]
-pub enum ListAnswer {
-    Listed(usize),
-    Refused(Refusal),
-}
-
-// What a save says: how many bytes it wrote.
-#[derive(Clone, Copy)]
-pub enum SaveAnswer {
-    Saved(usize),
-    Refused(Refusal),
-}
-
-// What a load says: how many labels it loaded.
-#[derive(Clone, Copy)]
-pub enum LoadAnswer {
-    Loaded(usize),
-    Refused(Refusal),
-}
-
-// What taking a roster says: how many records went in, or the number of the first refused one, from 1, and its refusal;
-// 0 where the lent memory or the text is refused.
-#[derive(Clone, Copy)]
-pub enum RosterAnswer {
-    Taken(usize),
-    Refused { number: usize, refusal: Refusal },
+// The first record of a roster that is refused, by its number, from 1, and its refusal; 0 where the lent memory or the
+// text is refused.
+#[derive(Clone, Copy, Debug, PartialEq, Eq)]
+pub struct RefusedRecord {
+    pub number: usize,
+    pub refusal: Refusal,
 }
 
 // The hub's index: 512 labels of at most 64 bytes.
