@@ -1,53 +1,31 @@
 // The reader of a decimal value, 0 to 65535 without needless leading zeros.
 #![tactic(auto)]
 
-ghost use Rattle.std.specs.Prelude.{◌≡◌, ◌≤◌, length, drop};
-ghost use Rattle.decimals.specs.Values.{value_says, value_of, value_after};
+ghost use Rattle.std.specs.Prelude.{◌≡◌};
+ghost use Rattle.decimals.specs.Values.{value_of, value_after};
 
-// The value that bytes write, where they write one.
-#[derive(Clone, Copy)]
-pub enum Value {
-    Of(u16),
-    Missing,
+// The value that a text writes, if it writes one: at least one digit, and no needless zero first.
+#[tactic(auto, using(crate::proofs::Values::value_laws))]
+pub fn value_of(text: &[u8]) -> Option<u16>
+    ensures { result ≡ value_of text.now }
+{
+    match text {
+        [] | [b'0', _, ..] => None,
+        _ => number_of(text),
+    }
 }
 
-// The value that the bytes from `start` on write: at least one, and no needless zero first.
-pub fn value_from(line: &[u8], start: usize) -> Value
-    requires { start ≤ length line.now }
-    ensures { value_says result ≡ value_of (drop start line.now) }
+// The number that a text writes, if all of it is digits and it is at most 65535.
+#[tactic(auto, using(crate::proofs::Values::digit_laws))]
+fn number_of(text: &[u8]) -> Option<u16>
+    ensures { result ≡ value_after 0 text.now }
 {
-    if line.len() <= start {
-        return Value::Missing;
-    }
-    if line[start] != 48 {
-        return digits_from(line, start);
-    }
-    if line.len() - start == 1 {
-        return Value::Of(0);
-    }
-    Value::Missing
-}
-
-// The number that the bytes from `start` on write, if all are digits and it is at most 65535.
-fn digits_from(line: &[u8], start: usize) -> Value
-    requires { start ≤ length line.now }
-    ensures { value_says result ≡ value_after 0 (drop start line.now) }
-{
-    let mut number: u32 = 0;
-    let mut i = start;
-    while i < line.len() {
-        let byte = line[i];
-        if byte < 48 {
-            return Value::Missing;
+    let mut number: u16 = 0;
+    for &byte in text {
+        if !byte.is_ascii_digit() {
+            return None;
         }
-        if 57 < byte {
-            return Value::Missing;
-        }
-        number = 10 * number + (byte - 48) as u32;
-        if 65535 < number {
-            return Value::Missing;
-        }
-        i += 1;
+        number = number.checked_mul(10)?.checked_add(u16::from(byte - b'0'))?;
     }
-    Value::Of(number as u16)
+    Some(number)
 }

@@ -6,7 +6,7 @@
 -- `records_of_some`: any other has the record at its front, and those of what comes after it.
 -- `records_within`: the records are no more than the bytes.
 use mathlib.Core.List.{List, [], ◌∷◌}
-use mathlib.Core.Option.{Option, none, some}
+use Rattle.std.specs.Prelude.{Option, Some, None}
 use mathlib.Core.Path.{◌≡◌, refl, ap}
 use Prim.Native.Nat.{ℕ, zero, suc, ◌≤◌, ◌<◌}
 use native.Mathlib.Omega.{arith}
@@ -34,8 +34,8 @@ two_fields (fields_of (label ∷ digits ∷ []) after) x value rest is = by_valu
   where
     by_value : (v : Option ℕ) → with_value label v after ≡ entry x value rest
         → TwoFields (fields_of (label ∷ digits ∷ []) after) x rest
-    by_value none is = clash cc
-    by_value (some number) is = record { digits = digits; fields = cc }
+    by_value None is = clash cc
+    by_value (Some number) is = record { digits = digits; fields = cc }
 two_fields (fields_of (label ∷ digits ∷ third ∷ more) after) x value rest is = clash cc
 
 -- A record with a label and a value leaves fewer bytes than the text has.

@@ -1,7 +1,6 @@
 -- A roster's text, read from its front on, record by record (M-100 of document 02): "RFC 4180 text with two fields,
 -- label and value, and no header".
-use Rattle.std.specs.Prelude.{true, false, ◌&&◌, List, [], ◌∷◌, ℕ, zero, suc, eqb, length}
-use Rattle.std.proofs.Math.Option.{Option, none, some}
+use Rattle.std.specs.Prelude.{true, false, ◌&&◌, List, [], ◌∷◌, ℕ, zero, suc, eqb, length, Option, Some, None}
 use Rattle.labels.specs.Labels.{Label}
 use Rattle.decimals.specs.Values.{value_of}
 use Rattle.files.specs.FileReads.{EntryRead, no_entry_lem, entry}
@@ -74,8 +73,8 @@ take_fields text = take_fields_with (suc (length text)) text
 -- ---- a record of a roster
 
 abbrev pub with_value : Label → Option ℕ → (rest : List ℕ) → EntryRead
-with_value x none rest = no_entry_lem
-with_value x (some value) rest = entry x value rest
+with_value x None rest = no_entry_lem
+with_value x (Some value) rest = entry x value rest
 
 -- "13, a record that breaks RFC 4180's grammar .., has not exactly two fields, or whose value is not a decimal 0 to
 -- 65535 without needless leading zeros"
