@@ -2,27 +2,27 @@
 -- `rest_start`: at the start all is left.  `rest_later`: it ends after the index.
 -- `rest_both`: it is told by the bytes there and by what is left after them.
 -- `none_same` to `four_same`, `past_some`, `past_four`: bytes that both have leave it to the index after them.
--- `passes`, `stops_smaller`, `stops_larger`: bytes of one number leave it to the next index, others end it.
+-- `passes`, `stops`: bytes of one number leave it to the next index, others end it.
 -- `ends_from`: the end of a label ends it.
--- `place_end`, `place_smaller`, `place_larger`, `place_next`: the same of the whole comparison, at a place reached.
--- `first_end`, `first_other_end`, `first_smaller`, `first_larger`, `first_same`: at the first place.
+-- `first_end`, `first_other_end`, `first_stops`, `first_passes`: the same of the whole comparison, at the first place.
 -- `order_end`, `order_other_end`, `order_bytes`: the order at the first place alone.
 -- `order_elsewhere`: the order at a place where a comparison does not end.
-use Prim.Native.Nat.{ℕ, suc, ◌+◌, ◌-◌, ◌≤◌, ◌<◌, min, compare}
+use Prim.Native.Nat.{ℕ, suc, ◌+◌, ◌-◌, ◌≤◌, ◌<◌, min, max, compare}
 use mathlib.Core.Path.{◌≡◌, refl, sym, ◌∙◌}
-use mathlib.Core.Bool.{Bool, cond}
+use mathlib.Core.Bool.{Bool, true, false, cond, true≢false}
 use native.Mathlib.Numerals.{add-one}
 use native.Mathlib.Omega.{arith}
 use lib.ListN.{length, get_or, drop, drop_of_length-le}
 use lib.Seq.{drop-cons}
 use borrow.Author.Tests.{lt-ltb, eq-eqb, ne_eqb}
+use Rattle.std.specs.Ordering.{is_ne}
+use Rattle.std.specs.declared.cmp.Ordering.{Ordering}
+use Rattle.std.specs.declared.cmp.Ordering.TheVariants.{Less, Equal, Greater}
 use Rattle.labels.specs.Labels.{Label, Comparison, smaller, same, larger, number_of, place_of}
 use Rattle.labels.specs.Labels.{compare_numbers, compare_at, compare_from}
 use Rattle.labels.proofs.Ends.{ends_of_compare}
 use Rattle.labels.proofs.Numbers.{Ltb, lt_yes, lt_no, ltb_view}
 use Rattle.orders.specs.Orders.{comparison_by, by_numbers, at_end}
-use Rattle.orders.specs.declared.Order.{Order}
-use Rattle.orders.specs.declared.Order.TheVariants.{Smaller, Same, Larger}
 use Rattle.orders.proofs.OrderLaws.{decided, compare_decided, same_bytes}
 use Rattle.compares.specs.Compares.{rest, order_at, HavePlaces}
 
@@ -49,7 +49,7 @@ module _ (x y : Label) (i : ℕ) where
   rest_ended over = go (ltb_view i (length x)) (ltb_view i (length y))
     where
       go : {more also : Bool} → Ltb i (length x) more → Ltb i (length y) also
-          → compare_at (suc i) (drop i x) (drop i y) ≡ comparison_by (cond more Larger (cond also Smaller Same)) (suc i)
+          → compare_at (suc i) (drop i x) (drop i y) ≡ comparison_by (cond more Greater (cond also Less Equal)) (suc i)
       go (lt_yes p) (lt_yes q) = absurd (omega arith)
       go (lt_yes p) (lt_no q) = rw (drop-cons x i 0, drop_of_length-le y)
       go (lt_no p) (lt_yes q) = rw (drop-cons y i 0, drop_of_length-le x)
@@ -99,130 +99,118 @@ pub past_four : (x y : Label) (i j n : ℕ) → rest x y (i + n) ≡ rest x y i 
     → rest x y (i + 4) ≡ rest x y j
 past_four x y i j n passed least most so = let all : n ≡ 4 = omega arith in (rw all at passed) ∙ so
 
--- where what is left at index i is what was left at index j, and both labels have the byte there
-module _ (x y : Label) (i j end : ℕ) (so : rest x y i ≡ rest x y j) (short : end ≡ min (length x) (length y))
-    (more : i < end) (o : Order) (order : o ≡ by_numbers (get_or x i 0) (get_or y i 0)) where
-  by_tested : decided o (suc i) (rest x y (suc i)) ≡ rest x y j
+-- where c is left at index i, and both labels have the byte there
+module _ (x y : Label) (i end : ℕ) (c : Comparison) (so : rest x y i ≡ c) (short : end ≡ min (length x) (length y))
+    (more : i < end) (o : Ordering) (order : o ≡ by_numbers (get_or x i 0) (get_or y i 0)) where
+  by_tested : decided o (suc i) (rest x y (suc i)) ≡ c
   by_tested = rw order (by_order x y i (omega arith) (omega arith) ∙ so)
 
-  -- bytes of one number leave it to the next index
-  pub passes : o ≡ Same → rest x y (i + 1) ≡ rest x y j
-  passes is = rw add-one (rw is at by_tested)
+  -- tested whether it ends there: bytes of one number leave it to the next index
+  pub passes : (t : Bool) → t ≡ is_ne o → t ≡ false → rest x y (i + 1) ≡ c
+  passes t e is = go o (sym e ∙ is) by_tested
+    where
+      go : (o : Ordering) → is_ne o ≡ false → decided o (suc i) (rest x y (suc i)) ≡ c
+          → rest x y (i + 1) ≡ c
+      go Less is found = absurd (true≢false is)
+      go Equal is found = rw add-one found
+      go Greater is found = absurd (true≢false is)
 
   -- others end it
-  pub stops_smaller : o ≡ Smaller → comparison_by o (i + 1) ≡ rest x y j
-  stops_smaller is = rw (add-one, is) (rw is at by_tested)
-
-  pub stops_larger : o ≡ Larger → comparison_by o (i + 1) ≡ rest x y j
-  stops_larger is = rw (add-one, is) (rw is at by_tested)
+  pub stops : (t : Bool) → t ≡ is_ne o → t ≡ true → comparison_by o (i + 1) ≡ c
+  stops t e is = go o (sym e ∙ is) by_tested
+    where
+      go : (o : Ordering) → is_ne o ≡ true → decided o (suc i) (rest x y (suc i)) ≡ c
+          → comparison_by o (i + 1) ≡ c
+      go Less is found = rw add-one found
+      go Equal is found = absurd (true≢false (sym is))
+      go Greater is found = rw add-one found
 
 -- the end of a label ends the comparison
-pub end_left : (x y : Label) (i end : ℕ) (o : Order) → end ≡ min (length x) (length y) → end ≤ i
+pub end_left : (x y : Label) (i end : ℕ) (o : Ordering) → end ≡ min (length x) (length y) → end ≤ i
     → o ≡ at_end (length x) (length y) i → comparison_by o (i + 1) ≡ rest x y i
 end_left x y i end o short over e = rw (add-one, e) (sym (rest_ended x y i (omega arith)))
 
--- where what is left at index i is what was left at index j, the end of a label ends it
-pub ends_from : (x y : Label) (i j end : ℕ) → rest x y i ≡ rest x y j → end ≡ min (length x) (length y) → (o : Order)
-    → end ≤ i → o ≡ at_end (length x) (length y) i → comparison_by o (i + 1) ≡ rest x y j
-ends_from x y i j end so short o over e = end_left x y i end o short over e ∙ so
-
--- a place that was reached from place d, whose index is one less
-module _ (x y : Label) (place d end : ℕ) (positive : 1 ≤ d) (reached : d ≤ place)
-    (so : rest x y (place - 1) ≡ compare_from d x y) (short : end ≡ min (length x) (length y)) (o : Order) where
-  -- a label ends there
-  pub place_end : end < place → o ≡ at_end (length x) (length y) (place - 1) → comparison_by o place ≡ compare_from d x y
-  place_end over e =
-      let at : place - 1 + 1 ≡ place = omega arith in
-      (rw at at (end_left x y (place - 1) end o short (omega arith) e)) ∙ so
-
-  -- by the order of the bytes there
-  module _ (within : place ≤ end) (order : o ≡ by_numbers (get_or x (place - 1) 0) (get_or y (place - 1) 0)) where
-    pub place_smaller : o ≡ Smaller → comparison_by o place ≡ compare_from d x y
-    place_smaller is =
-        let at : place - 1 + 1 ≡ place = omega arith in
-        (rw at at (stops_smaller x y (place - 1) (place - 1) end refl short (omega arith) o order is)) ∙ so
-
-    pub place_larger : o ≡ Larger → comparison_by o place ≡ compare_from d x y
-    place_larger is =
-        let at : place - 1 + 1 ≡ place = omega arith in
-        (rw at at (stops_larger x y (place - 1) (place - 1) end refl short (omega arith) o order is)) ∙ so
-
-    pub place_next : o ≡ Same → rest x y (place + 1 - 1) ≡ compare_from d x y
-    place_next is =
-        let at : place - 1 + 1 ≡ place + 1 - 1 = omega arith in
-        (rw at at (passes x y (place - 1) (place - 1) end refl short (omega arith) o order is)) ∙ so
+-- where c is left at index i, the end of a label, at that index, ends it
+pub ends_from : (x y : Label) (i j k end : ℕ) (c : Comparison) → rest x y i ≡ c → end ≡ min (length x) (length y)
+    → (o : Ordering) → end ≤ i → i ≤ max j end → k ≡ max j end → j ≤ i → o ≡ at_end (length x) (length y) k
+    → comparison_by o (k + 1) ≡ c
+ends_from x y i j k end c so short o over most is least e =
+    let at : i ≡ k = omega arith in
+    end_left x y k end o short (omega arith) e ∙ (rw at at so)
 
 -- a label that goes on where the other may end is the larger
-longer_at_end : (m n i : ℕ) → i < m → Larger ≡ at_end m n i
+longer_at_end : (m n i : ℕ) → i < m → Greater ≡ at_end m n i
 unfolding at_end
 longer_at_end m n i more = rw (lt-ltb i m more)
 
 -- the first place
 module _ (x y : Label) (d : ℕ) (positive : 1 ≤ d) where
-  -- x ends there, or y alone
-  pub first_end : (o : Order) → length x ≤ d - 1 → o ≡ at_end (length x) (length y) (d - 1)
-      → comparison_by o d ≡ compare_from d x y
-  first_end o over =
-      place_end x y d d (min (length x) (length y)) positive (omega arith) (rest_start d x y positive) refl o
-      (omega arith)
+  -- what is left there is the whole comparison
+  at_first : (c : Comparison) → c ≡ rest x y (d - 1) → c ≡ compare_from d x y
+  at_first c is = is ∙ rest_start d x y positive
 
-  pub first_other_end : d - 1 < length x → length y ≤ d - 1 → comparison_by Larger d ≡ compare_from d x y
+  -- x ends there, or y alone
+  pub first_end : (o : Ordering) → length x ≤ d - 1 → o ≡ at_end (length x) (length y) (d - 1)
+      → comparison_by o d ≡ compare_from d x y
+  first_end o over e =
+      let at : d - 1 + 1 ≡ d = omega arith in
+      at_first (comparison_by o d)
+      (rw at at (end_left x y (d - 1) (min (length x) (length y)) o refl (omega arith) e))
+
+  pub first_other_end : d - 1 < length x → length y ≤ d - 1 → comparison_by Greater d ≡ compare_from d x y
   first_other_end more over =
-      place_end x y d d (min (length x) (length y)) positive (omega arith) (rest_start d x y positive) refl Larger
-      (omega arith) (longer_at_end (length x) (length y) (d - 1) more)
+      let at : d - 1 + 1 ≡ d = omega arith in
+      at_first (comparison_by Greater d)
+      (rw at at (end_left x y (d - 1) (min (length x) (length y)) Greater refl (omega arith)
+      (longer_at_end (length x) (length y) (d - 1) more)))
 
   -- by the order of the bytes there
-  module _ (o : Order) (more : d - 1 < length x) (also : d - 1 < length y)
+  module _ (o : Ordering) (more : d - 1 < length x) (also : d - 1 < length y)
       (order : o ≡ by_numbers (get_or x (d - 1) 0) (get_or y (d - 1) 0)) where
-    pub first_smaller : o ≡ Smaller → comparison_by o d ≡ compare_from d x y
-    first_smaller =
-        place_smaller x y d d (min (length x) (length y)) positive (omega arith) (rest_start d x y positive) refl o
-        (omega arith) order
-
-    pub first_larger : o ≡ Larger → comparison_by o d ≡ compare_from d x y
-    first_larger =
-        place_larger x y d d (min (length x) (length y)) positive (omega arith) (rest_start d x y positive) refl o
-        (omega arith) order
+    pub first_stops : (t : Bool) → t ≡ is_ne o → t ≡ true → comparison_by o d ≡ compare_from d x y
+    first_stops t e is =
+        let at : d - 1 + 1 ≡ d = omega arith in
+        at_first (comparison_by o d)
+        (rw at at (stops x y (d - 1) (min (length x) (length y)) (rest x y (d - 1)) refl refl (omega arith) o order t e is))
 
     -- bytes of one number leave it to the places after it
-    pub first_same : (i : ℕ) (c : Comparison) → o ≡ Same → rest x y i ≡ rest x y d → c ≡ rest x y i
-        → c ≡ compare_from d x y
-    first_same i c is so e =
-        let at : d + 1 - 1 ≡ d = omega arith in
-        let next = place_next x y d d (min (length x) (length y)) positive (omega arith) (rest_start d x y positive)
-        refl o (omega arith) order is in
-        e ∙ so ∙ (rw at at next)
+    pub first_passes : (t : Bool) → t ≡ is_ne o → t ≡ false → (i : ℕ) (c : Comparison) → rest x y i ≡ rest x y d
+        → c ≡ rest x y i → c ≡ compare_from d x y
+    first_passes t said is i c so e =
+        let at : d - 1 + 1 ≡ d = omega arith in
+        let next = passes x y (d - 1) (min (length x) (length y)) (rest x y (d - 1)) refl refl (omega arith) o order t said is in
+        at_first c (e ∙ so ∙ (rw at at next))
 
 -- ---- the order at one place
 
 -- of a comparison that ends there it is the order that was found, of one that ends elsewhere the same
-order_there : (o : Order) (d : ℕ) → o ≡ order_at d (comparison_by o d)
-order_there Smaller d = rw (eq-eqb d d refl)
-order_there Same d = refl
-order_there Larger d = rw (eq-eqb d d refl)
+order_there : (o : Ordering) (d : ℕ) → o ≡ order_at d (comparison_by o d)
+order_there Less d = rw (eq-eqb d d refl)
+order_there Equal d = refl
+order_there Greater d = rw (eq-eqb d d refl)
 
-pub order_elsewhere : (k : Comparison) (d : ℕ) → (d ≡ place_of k → ⊥) → Same ≡ order_at d k
+pub order_elsewhere : (k : Comparison) (d : ℕ) → (d ≡ place_of k → ⊥) → Equal ≡ order_at d k
 order_elsewhere (smaller i) d other = rw (ne_eqb d i other)
 order_elsewhere (same i) d other = refl
 order_elsewhere (larger i) d other = rw (ne_eqb d i other)
 
 module _ (x y : Label) (d : ℕ) (positive : 1 ≤ d) where
-  order_found : (o : Order) → comparison_by o d ≡ compare_from d x y → o ≡ order_at d (compare_from d x y)
+  order_found : (o : Ordering) → comparison_by o d ≡ compare_from d x y → o ≡ order_at d (compare_from d x y)
   order_found o found = rw (← found) (order_there o d)
 
   -- x ends there, or y alone
-  pub order_end : (o : Order) → length x ≤ d - 1 → o ≡ at_end (length x) (length y) (d - 1)
+  pub order_end : (o : Ordering) → length x ≤ d - 1 → o ≡ at_end (length x) (length y) (d - 1)
       → o ≡ order_at d (compare_from d x y)
   order_end o over e = order_found o (first_end x y d positive o over e)
 
-  pub order_other_end : d - 1 < length x → length y ≤ d - 1 → Larger ≡ order_at d (compare_from d x y)
-  order_other_end more over = order_found Larger (first_other_end x y d positive more over)
+  pub order_other_end : d - 1 < length x → length y ≤ d - 1 → Greater ≡ order_at d (compare_from d x y)
+  order_other_end more over = order_found Greater (first_other_end x y d positive more over)
 
   -- by the order of the bytes there
-  pub order_bytes : (o : Order) → d - 1 < length x → d - 1 < length y
+  pub order_bytes : (o : Ordering) → d - 1 < length x → d - 1 < length y
       → o ≡ by_numbers (get_or x (d - 1) 0) (get_or y (d - 1) 0) → o ≡ order_at d (compare_from d x y)
-  order_bytes Smaller more also order = order_found Smaller (first_smaller x y d positive Smaller more also order refl)
-  order_bytes Same more also order =
-      rw (← first_same x y d positive Same more also order d (rest x y d) refl refl refl)
+  order_bytes Less more also order = order_found Less (first_stops x y d positive Less more also order true refl refl)
+  order_bytes Equal more also order =
+      rw (← first_passes x y d positive Equal more also order false refl refl d (rest x y d) refl refl)
       (order_elsewhere (rest x y d) d (λ e. omega (arith, e, rest_later x y d)))
-  order_bytes Larger more also order = order_found Larger (first_larger x y d positive Larger more also order refl)
+  order_bytes Greater more also order = order_found Greater (first_stops x y d positive Greater more also order true refl refl)

@@ -1,9 +1,9 @@
 -- What a comparison in code says, in the terms of the definition; where it may start, and where it ends.
 use Rattle.std.specs.Prelude.{ℕ, suc, ◌+◌, ◌≤◌, min, ◌≡◌, cond, eqb, length, drop}
+use Rattle.std.specs.declared.cmp.Ordering.{Ordering}
+use Rattle.std.specs.declared.cmp.Ordering.TheVariants.{Less, Equal, Greater}
 use Rattle.labels.specs.Labels.{Label, Comparison, smaller, same, larger, compare_at}
 use Rattle.orders.specs.Orders.{comparison_by}
-use Rattle.orders.specs.declared.Order.{Order}
-use Rattle.orders.specs.declared.Order.TheVariants.{Smaller, Same, Larger}
 use Rattle.compares.specs.declared.Compared.{Compared}
 
 -- the comparison that an answer stands for
@@ -15,10 +15,10 @@ unfoldable pub rest : Label → Label → ℕ → Comparison
 rest x y i = compare_at (suc i) (drop i x) (drop i y)
 
 -- the order of two labels by place d: the same where their comparison ends at another
-abbrev pub order_at : ℕ → Comparison → Order
-order_at d (smaller i) = cond (eqb d i) Smaller Same
-order_at d (same i) = Same
-order_at d (larger i) = cond (eqb d i) Larger Same
+abbrev pub order_at : ℕ → Comparison → Ordering
+order_at d (smaller i) = cond (eqb d i) Less Equal
+order_at d (same i) = Equal
+order_at d (larger i) = cond (eqb d i) Greater Equal
 
 -- both labels have the n places from index i
 pub record HavePlaces (n : ℕ) (x y : Label) (i : ℕ) : Type 0 where

@@ -3,25 +3,18 @@
 // the place at which it ends; the crate `eights` has one that does. `at_place` gives the order at one place alone.
 #![tactic(auto)]
 
-ghost use Rattle.std.specs.Prelude.{◌≡◌, ◌+◌, ◌≤◌, min};
+ghost use Rattle.std.specs.Prelude.{◌≡◌, ◌+◌, ◌≤◌};
 ghost use Rattle.labels.specs.Labels.{compare_from};
 ghost use Rattle.compares.specs.Compares.{comparison_of, rest, order_at, HavePlaces};
 ghost use Rattle.compares.specs.Compares.{StartsWithin, EndsWithin, EndsAt, StaysWithin};
 
-use orders::Order;
+use std::cmp::Ordering;
 
 // The order of two labels, and the place at which their comparison ended: the difference place or the shared end's.
 #[derive(Clone, Copy)]
 pub struct Compared {
-    pub order: Order,
+    pub order: Ordering,
     pub place: usize,
-}
-
-// The smaller of two lengths.
-pub fn shorter(one: usize, other: usize) -> usize
-    ensures { result ≡ min one other }
-{
-    if one < other { one } else { other }
 }
 
 // How many of the four bytes from index i on are the same before the first that is not; each is tested before the next
@@ -75,29 +68,25 @@ fn onward(x: &[u8], y: &[u8], from: usize, end: usize) -> Compared
     ensures result_value { comparison_of result ≡ rest x.now y.now from }
     ensures ends_within { EndsWithin (from + 1) y.now result.place }
 {
-    let mut i = from;
-    while i < end {
+    for i in from..end {
         let order = orders::by_sight(x[i], y[i]);
-        let place = i + 1;
-        match order {
-            Order::Smaller => {
-                return Compared { order, place };
-            }
-            Order::Same => {
-                i = place;
-            }
-            Order::Larger => {
-                return Compared { order, place };
-            }
+        if order.is_ne() {
+            return Compared {
+                order,
+                place: i + 1,
+            };
         }
     }
+    let i = from.max(end);
     let order = orders::at_end(x.len(), y.len(), i);
-    let place = i + 1;
-    Compared { order, place }
+    Compared {
+        order,
+        place: i + 1,
+    }
 }
 
 // The order at place d alone: the same where it does not end the comparison from there on.
-pub fn at_place(x: &[u8], y: &[u8], d: usize) -> Order
+pub fn at_place(x: &[u8], y: &[u8], d: usize) -> Ordering
     requires { 1 ≤ d }
     ensures { result ≡ order_at d (compare_from d x.now y.now) }
 {
@@ -106,7 +95,7 @@ pub fn at_place(x: &[u8], y: &[u8], d: usize) -> Order
         return orders::at_end(x.len(), y.len(), index);
     }
     if y.len() <= index {
-        return Order::Larger;
+        return Ordering::Greater;
     }
     orders::by_sight(x[index], y[index])
 }
@@ -124,20 +113,17 @@ pub fn compare(x: &[u8], y: &[u8], d: usize) -> Compared
     }
     if y.len() <= first {
         return Compared {
-            order: Order::Larger,
+            order: Ordering::Greater,
             place: d,
         };
     }
     let order = orders::by_sight(x[first], y[first]);
-    match order {
-        Order::Smaller => Compared { order, place: d },
-        Order::Same => {
-            let end = shorter(x.len(), y.len());
-            let i = past_fours(x, y, d, end);
-            onward(x, y, i, end)
-        }
-        Order::Larger => Compared { order, place: d },
+    if order.is_ne() {
+        return Compared { order, place: d };
     }
+    let end = x.len().min(y.len());
+    let i = past_fours(x, y, d, end);
+    onward(x, y, i, end)
 }
 
 // The same, place by place, each byte read once, by the numbers in the table.
@@ -146,22 +132,20 @@ pub fn by_table(x: &[u8], y: &[u8], d: usize) -> Compared
     ensures result_value { comparison_of result ≡ compare_from d x.now y.now }
     ensures ends_within { EndsWithin d y.now result.place }
 {
-    let end = shorter(x.len(), y.len());
-    let mut place = d;
-    while place <= end {
-        let order = orders::by_table(x[place - 1], y[place - 1]);
-        match order {
-            Order::Smaller => {
-                return Compared { order, place };
-            }
-            Order::Same => {
-                place += 1;
-            }
-            Order::Larger => {
-                return Compared { order, place };
-            }
+    let end = x.len().min(y.len());
+    for i in d - 1..end {
+        let order = orders::by_table(x[i], y[i]);
+        if order.is_ne() {
+            return Compared {
+                order,
+                place: i + 1,
+            };
         }
     }
-    let order = orders::at_end(x.len(), y.len(), place - 1);
-    Compared { order, place }
+    let i = (d - 1).max(end);
+    let order = orders::at_end(x.len(), y.len(), i);
+    Compared {
+        order,
+        place: i + 1,
+    }
 }

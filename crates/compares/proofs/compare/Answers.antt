@@ -1,4 +1,5 @@
-use Rattle.compares.proofs.Laws.{first_end, first_other_end, first_smaller, first_larger, first_same}
+use native.Mathlib.Omega.{arith}
+use Rattle.compares.proofs.Laws.{first_end, first_other_end, first_stops, first_passes}
 use Rattle.compares.proofs.compare.Goals as goal
 
 pub returns-then-x-first-clause-result_value : goal.returns-then-x-first-clause-result_value
@@ -7,11 +8,8 @@ returns-then-x-first-clause-result_value c = search first_end
 pub returns-then-y-first-clause-result_value : goal.returns-then-y-first-clause-result_value
 returns-then-y-first-clause-result_value c = search first_other_end
 
-pub returns-in-Smaller-clause-result_value : goal.returns-in-Smaller-clause-result_value
-returns-in-Smaller-clause-result_value c = search first_smaller
+pub returns-then-is_ne-clause-result_value : goal.returns-then-is_ne-clause-result_value
+returns-then-is_ne-clause-result_value c = search (first_stops, arith)
 
-pub returns-in-Same-clause-result_value : goal.returns-in-Same-clause-result_value
-returns-in-Same-clause-result_value c = search first_same
-
-pub returns-in-Larger-clause-result_value : goal.returns-in-Larger-clause-result_value
-returns-in-Larger-clause-result_value c = search first_larger
+pub returns-clause-result_value : goal.returns-clause-result_value
+returns-clause-result_value c = search (first_passes, arith)

@@ -1,15 +1,12 @@
 use native.Mathlib.Omega.{arith}
-use Rattle.compares.proofs.Laws.{passes, stops_smaller, stops_larger, ends_from}
+use Rattle.compares.proofs.Laws.{passes, stops, ends_from}
 use Rattle.compares.proofs.onward.Goals as goal
 
-pub returns-in-Smaller-clause-result_value : goal.returns-in-Smaller-clause-result_value
-returns-in-Smaller-clause-result_value c = search stops_smaller
+pub returns-then-is_ne-clause-result_value : goal.returns-then-is_ne-clause-result_value
+returns-then-is_ne-clause-result_value c = search (stops, arith)
 
 pub loop-i-preserved : goal.loop-i-preserved
-loop-i-preserved c = (omega arith, (omega arith, search passes))
-
-pub returns-in-Larger-clause-result_value : goal.returns-in-Larger-clause-result_value
-returns-in-Larger-clause-result_value c = search stops_larger
+loop-i-preserved c = (omega arith, search (passes, arith))
 
 pub returns-clause-result_value : goal.returns-clause-result_value
-returns-clause-result_value c = search ends_from
+returns-clause-result_value c = search (ends_from, arith)

@@ -1,14 +1,9 @@
 -- `compares::onward` meets its contract.
 -- The invariant: what is left to compare at the index reached is what was left at the start.
--- The measure: the bytes left up to the shorter end.
-use Prim.Native.Nat.{◌-◌, ◌≤◌}
+use Prim.Native.Nat.{◌≤◌, max}
 use mathlib.Core.Path.{◌≡◌}
-use lib.ListN.{length}
 use Rattle.compares.specs.Compares.{rest}
 use Rattle.compares.proofs.onward.Given as goal
 
 abbrev pub invariant-loop-i : goal.invariant-loop-i
-invariant-loop-i l = (l.from ≤ l.i) × ((l.i ≤ length l.y) × (rest l.x l.y l.i ≡ rest l.x l.y l.from))
-
-abbrev pub decreases-loop-i : goal.decreases-loop-i
-decreases-loop-i l = l.end - l.i
+invariant-loop-i l = (l.i ≤ max l.from l.end) × (rest l.x l.y l.i ≡ rest l.x l.y l.from)

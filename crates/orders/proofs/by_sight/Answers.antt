@@ -1,11 +1,6 @@
-use Rattle.orders.proofs.OrderLaws.{same_bytes, shown_smaller, shown_larger}
+use Rattle.std.proofs.Common.{rules}
+use Rattle.orders.proofs.OrderLaws.{by_shown}
 use Rattle.orders.proofs.by_sight.Goals as goal
 
-pub returns-then-a-b : goal.returns-then-a-b
-returns-then-a-b c = search same_bytes
-
-pub returns-in-Smaller : goal.returns-in-Smaller
-returns-in-Smaller c = search shown_smaller
-
-pub returns-in-Larger : goal.returns-in-Larger
-returns-in-Larger c = search shown_larger
+pub returns : goal.returns
+returns c = by_shown _ _ _ _ c.if-a-b.false c.shown.ensures c.then_with.ensures (λ k. search rules)
