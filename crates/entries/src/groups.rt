@@ -7,6 +7,7 @@ ghost use Rattle.files.specs.Groups.{groups_of};
 pub fn count(n: usize) -> usize
     ensures { result ≡ length (groups_of n) }
 {
+    // No `for`: how many groups there are is what is asked.
     let mut above = n;
     let mut groups: usize = 1;
     while 128 <= above {
@@ -21,6 +22,7 @@ pub fn put(output: &mut [u8], at: usize, n: usize) -> usize
     requires { HasRoom (groups_of n) at output.old }
     ensures { Filled (groups_of n) output.old at output.new result }
 {
+    // No `for`: the number's groups are not known before it is divided.
     let mut rest = n;
     let mut next = at;
     while 128 <= rest {

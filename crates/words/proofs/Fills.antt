@@ -3,14 +3,17 @@
 -- `filled_in_turn`: two runs, one after the other, are one.
 -- `filled_length`: the list keeps its length.
 -- `sets_from_start`: a run from the list's start on stands before the list's later elements.
+-- `filled_part`: a part of a list that is given a run's elements is filled by the run.
 use mathlib.Core.List.{List, [], ◌∷◌, ◌++◌}
-use mathlib.Core.Path.{◌≡◌, sym, ap, ◌∙◌}
+use mathlib.Core.Path.{◌≡◌, refl, sym, ap, ◌∙◌}
 use Prim.Native.Nat.{ℕ, suc, ◌+◌, ◌≤◌}
 use native.Mathlib.Nat.{zero-add, add-zero, add-suc, suc-add}
 use native.Mathlib.Omega.{arith}
-use lib.ListN.{length, set, drop, length-append}
+use borrow.Rule.Slice.PartMut.{put_mid}
+use lib.ListN.{length, set, take, drop, length-append}
 use lib.Seq.{sets, sets-eq, length-sets}
-use Rattle.words.specs.Filled.{Filled}
+use Rattle.std.proofs.lemmas.List.{append_assoc, drop-drop}
+use Rattle.words.specs.Filled.{Filled, HasRoom}
 
 -- stores of two runs, one after the other
 sets_append : (l : List ℕ) (at : ℕ) (xs ys : List ℕ)
@@ -46,3 +49,15 @@ filled_length {run} {before} {after} {at} filled = ap length filled.list ∙ len
 -- A run from the list's start on stands before the list's later elements.
 pub sets_from_start : (l run : List ℕ) → length run ≤ length l → sets l 0 run ≡ run ++ drop (length run) l
 sets_from_start l run h = sets-eq run l 0 (omega arith) ∙ rw zero-add
+
+-- A part of a list that is given a run's elements is filled by the run.
+pub filled_part : (run before part : List ℕ) (at count : ℕ) → HasRoom run at before → count ≡ length run → part ≡ run
+    → Filled run before at (put_mid at count before part) (at + length run)
+filled_part run before part at count room all is =
+    record {
+      list =
+          rw (is, all)
+          (ap (λ (rest : List ℕ). take at before ++ (run ++ rest)) (drop-drop (length run) at before)
+          ∙ sym (append_assoc (take at before) run _) ∙ sym (sets-eq run before at room));
+      end = refl;
+    }

@@ -1,15 +1,34 @@
--- A stored row is read back, and the rows of the other slots stay. Eight stores in turn store a row.
+-- A row read word by word is the slot's. A stored row is read back, and the rows of the other slots stay. Eight stores
+-- in turn store a row.
 use Prim.Native.Nat.{ℕ, ◌+◌, ◌≤◌, ◌<◌}
 use mathlib.Core.Path.{◌≡◌}
 use mathlib.Core.Logic.{◌≢◌}
 use mathlib.Core.List.{List}
+use native.Mathlib.Nat.{add-zero}
 use native.Mathlib.Omega.{arith}
 use lib.Dec.{T, ltb, ltb→lt}
 use lib.ListN.{length, get_or, set, length-set}
 use lib.Seq.{get_or-set_same, get_or-set_other}
 use Rattle.types.specs.declared.Row.{Row}
 use Rattle.tables.specs.Words.{slot_start, row_from, row_at}
-use Rattle.words.specs.Rows.{put_from, put_row, HasRow}
+use Rattle.words.specs.Rows.{put_from, put_row, HasRow, RowBy}
+
+-- a row whose words are those from a slot's start on
+pub row_read : (reads : (at word : ℕ) → Type 0) (t : List ℕ) (k : ℕ) (r : Row) → RowBy reads r
+    → ((at word : ℕ) → reads at word → word ≡ get_or t (slot_start k + at) 0) → r ≡ row_at t k
+unfolding row_at
+row_read reads t k r by is =
+    let left : r.left ≡ get_or t (slot_start k) 0 = rw add-zero at (is 0 _ by.left) in
+    λ i. record {
+      left = left i;
+      right = is 1 _ by.right i;
+      place = is 2 _ by.place i;
+      side = is 3 _ by.side i;
+      balance = is 4 _ by.balance i;
+      len = is 5 _ by.len i;
+      value = is 6 _ by.value i;
+      charge = is 7 _ by.charge i;
+    }
 
 -- a store above the word read
 above : (l : List ℕ) (b m j a : ℕ) → T (ltb j m) → get_or (set l (b + m) a) (b + j) 0 ≡ get_or l (b + j) 0

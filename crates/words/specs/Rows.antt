@@ -17,3 +17,14 @@ put_row table k r = put_from table (slot_start k) r
 pub record HasRow (table : List ℕ) (k : ℕ) : Type 0 where
   pub low : 1 ≤ k
   pub high : 8 * k + 4 ≤ length table
+
+-- a row whose words are read one by one
+pub record RowBy (reads : (at word : ℕ) → Type 0) (row : Row) : Type 0 where
+  pub left : reads 0 row.left
+  pub right : reads 1 row.right
+  pub place : reads 2 row.place
+  pub side : reads 3 row.side
+  pub balance : reads 4 row.balance
+  pub len : reads 5 row.len
+  pub value : reads 6 row.value
+  pub charge : reads 7 row.charge

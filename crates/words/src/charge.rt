@@ -10,10 +10,7 @@ pub const UNKNOWN: u16 = 255;
 pub fn is_charge(charge: u16) -> bool
     ensures { result ≡ is_charge charge }
 {
-    if charge <= 100 {
-        return true;
-    }
-    charge == UNKNOWN
+    charge <= 100 || charge == UNKNOWN
 }
 
 // Stores the charge of a slot; every other word stays.

@@ -6,10 +6,7 @@ pub fn put_bytes(output: &mut [u8], at: usize, bytes: &[u8]) -> usize
     requires { HasRoom bytes.now at output.old }
     ensures { Filled bytes.now output.old at output.new result }
 {
-    let mut i = 0;
-    while i < bytes.len() {
-        output[at + i] = bytes[i];
-        i += 1;
-    }
-    at + i
+    let end = at + bytes.len();
+    output[at..end].copy_from_slice(bytes);
+    end
 }

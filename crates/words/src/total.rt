@@ -12,13 +12,14 @@ use types::{Limits, Row};
 pub fn word(table: &[u16], at: usize) -> u16
     ensures { result ≡ get_or table.now at 0 }
 {
-    if at < table.len() { table[at] } else { 0 }
+    table.get(at).copied().unwrap_or(0)
 }
 
 // Stores a word at a place.
 pub fn set_word(table: &mut [u16], at: usize, value: u16)
     ensures { table.new ≡ set table.old at value }
 {
+    // std's `get_mut` promises nothing of the table as it is left.
     if at < table.len() {
         table[at] = value;
     }
@@ -28,11 +29,7 @@ pub fn set_word(table: &mut [u16], at: usize, value: u16)
 pub fn row_start(slot: u16) -> usize
     ensures { result ≡ slot_start slot }
 {
-    if slot == 0 {
-        4
-    } else {
-        4 + 8 * (slot as usize - 1)
-    }
+    4 + 8 * (slot as usize).saturating_sub(1)
 }
 
 // The row of a slot.
@@ -40,16 +37,7 @@ pub fn row_of(table: &[u16], slot: u16) -> Row
     ensures { result ≡ row_at table.now slot }
 {
     let base = row_start(slot);
-    Row {
-        left: word(table, base),
-        right: word(table, base + 1),
-        place: word(table, base + 2),
-        side: word(table, base + 3),
-        balance: word(table, base + 4),
-        len: word(table, base + 5),
-        value: word(table, base + 6),
-        charge: word(table, base + 7),
-    }
+    crate::row_by(|i| word(table, base + i))
 }
 
 // Stores the row of a slot; every other word stays.
@@ -79,20 +67,13 @@ pub fn part_start(limits: Limits, slot: u16) -> usize
     parts::part_start(limits, slot as usize)
 }
 
-// The smaller of an index and a length.
-pub fn clipped(at: usize, len: usize) -> usize
-    ensures { result ≡ min at len }
-{
-    if at < len { at } else { len }
-}
-
 // The label in a slot, by its length.
 pub fn label_at(limits: Limits, store: &[u8], slot: u16, len: u16) -> &[u8]
     requires { LimitsFit limits }
     ensures { result.now ≡ label_at limits store.now slot len }
 {
-    let start = clipped(part_start(limits, slot), store.len());
-    let end = clipped(start + len as usize, store.len());
+    let start = part_start(limits, slot).min(store.len());
+    let end = (start + len as usize).min(store.len());
     &store[start..end]
 }
 

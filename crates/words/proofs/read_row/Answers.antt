@@ -1,7 +1,6 @@
-use mathlib.Core.Path.{refl}
-use Rattle.tables.specs.Words.{row_at}
+use borrow.Author.Rules.{rules}
+use Rattle.words.proofs.Laws.{row_read}
 use Rattle.words.proofs.read_row.Goals as goal
 
 pub returns : goal.returns
-unfolding row_at
-returns c = refl
+returns c = row_read _ _ _ _ c.row_by.ensures (λ at word is. search rules)

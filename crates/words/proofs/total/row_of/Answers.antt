@@ -1,6 +1,6 @@
-use Rattle.tables.specs.Words.{row_at}
+use borrow.Author.Rules.{rules}
+use Rattle.words.proofs.Laws.{row_read}
 use Rattle.words.proofs.total.row_of.Goals as goal
 
 pub returns : goal.returns
-unfolding row_at
-returns c = cc
+returns c = row_read _ _ _ _ c.row_by.ensures (λ at word is. search rules)
