@@ -2,20 +2,18 @@
 -- `no_pass`: a refusal is no pass. `line_passed`: where the lines pass, the first one's test failed.
 -- `Decides`: lines pass or refuse, whatever stands below them. `one_line`, `in_turn`, `memory_decides`: so do all.
 -- `lines_refused`, `lines_passed`: what was said of lines where nothing stands below them.
--- `first_line`, `second_line`, `neither_line`: of two lines by what is not so, the first that applies.
 -- `memory_refused`, `memory_passed`: a refusal by a lent length is the call's; past it the lines below decide.
 -- `sizes_passed`, `sizes_fit`, `label_passed`: past them the table and the store have their sizes, and the label fits.
--- `label_unread`, `label_empty`, `label_long`, `label_taken`: what is said where a label is tested besides.
--- `label_tested`: the same, by an answer that is the label's own.
 -- `lengths_refused`, `lengths_passed`, `lengths_fit_lem`: the same of both.
 use mathlib.Core.List.{List}
 use mathlib.Core.Bool.{Bool, true, false, not}
 use mathlib.Core.Path.{◌≡◌, refl, sym, ap, ◌∙◌}
-use Prim.Native.Nat.{ℕ, ◌≤◌, ◌<◌}
+use Prim.Native.Nat.{ℕ}
 use native.Mathlib.Omega.{arith}
 use lib.Dec.{eqb, ltb}
 use lib.ListN.{length}
-use borrow.Author.Tests.{not-false, eqb-true, eqb-false, ltb-false, eq-eqb, ne_eqb, lt-ltb, le-ltb}
+use borrow.Author.Tests.{not-false, eqb-true, eqb-false, ltb-false}
+use Rattle.std.specs.Prelude.{Result, Ok, Err}
 use Rattle.types.specs.declared.Limits.{Limits}
 use Rattle.types.specs.declared.Refusal.{Refusal}
 use Rattle.types.specs.Sizes.{table_length, store_length}
@@ -25,9 +23,7 @@ use Rattle.labels.proofs.Clashes.{clash}
 use Rattle.tables.specs.Outcomes.{Verdict, pass, refuse, line, of_memory, of_label}
 use Rattle.tables.specs.Claims.{LabelFits}
 use Rattle.words.specs.Limits.{LimitsFit, SizesFit}
-use Rattle.lengths.specs.declared.Early.{Early}
-use Rattle.lengths.specs.declared.Early.TheVariants.{Pass, Refused}
-use Rattle.lengths.specs.Early.{early_says}
+use Rattle.lengths.specs.Tests.{test_says}
 
 -- a refusal is no pass
 pub no_pass : {A : Type 0} (number : ℕ) → pass ≡ refuse number → A
@@ -55,34 +51,21 @@ in_turn first second (passes p) (refuses n q) = refuses n (λ below. p (second b
 in_turn first second (refuses n p) later = refuses n (λ below. p (second below))
 
 -- what was said of lines where nothing stands below them holds of all that stands there
-module _ (lines : Verdict → Verdict) (decides : Decides lines) (early : Early)
-    (says : early_says early ≡ lines pass) where
-  pub lines_refused : (r : Refusal) → early ≡ Refused r → (below : Verdict) → lines below ≡ refuse (refusal_number r)
-  lines_refused r e below = go decides (sym (ap early_says e) ∙ says)
+module _ (lines : Verdict → Verdict) (decides : Decides lines) (tested : Result Unit Refusal)
+    (says : test_says tested ≡ lines pass) where
+  pub lines_refused : (r : Refusal) → tested ≡ Err r → (below : Verdict) → lines below ≡ refuse (refusal_number r)
+  lines_refused r e below = go decides (sym (ap test_says e) ∙ says)
     where
       go : Decides lines → refuse (refusal_number r) ≡ lines pass → lines below ≡ refuse (refusal_number r)
       go (passes p) same = no_pass (refusal_number r) (sym (same ∙ p pass))
       go (refuses n p) same = p below ∙ sym (same ∙ p pass)
 
-  pub lines_passed : early ≡ Pass → (below : Verdict) → lines below ≡ below
-  lines_passed e below = go decides (sym (ap early_says e) ∙ says)
+  pub lines_passed : tested ≡ Ok tt → (below : Verdict) → lines below ≡ below
+  lines_passed e below = go decides (sym (ap test_says e) ∙ says)
     where
       go : Decides lines → pass ≡ lines pass → lines below ≡ below
       go (passes p) same = p below
       go (refuses n p) same = no_pass n (same ∙ p pass)
-
--- of two lines by what is not so, the first comes first,
-module _ (one two : Bool) (m n : ℕ) where
-  pub first_line : one ≡ false → refuse m ≡ line (not one) m (line (not two) n pass)
-  first_line not_one = rw not_one
-
-  -- then the second,
-  pub second_line : one ≡ true → two ≡ false → refuse n ≡ line (not one) m (line (not two) n pass)
-  second_line is_one not_two = rw (is_one, not_two)
-
-  -- else none
-  pub neither_line : one ≡ true → two ≡ true → pass ≡ line (not one) m (line (not two) n pass)
-  neither_line is_one is_two = rw (is_one, is_two)
 
 -- where the lines of a label pass, it fits
 pub label_passed : (limits : Limits) (x : Label) (below : Verdict) → pass ≡ of_label limits x below
@@ -114,42 +97,19 @@ module _ (limits : Limits) (table store : List ℕ) where
         bytes.1,
       )
 
-  module _ (early : Early) (says : early_says early ≡ of_memory limits table store pass) where
+  module _ (tested : Result Unit Refusal) (says : test_says tested ≡ of_memory limits table store pass) where
     -- a refusal by a lent length is the whole call's
-    pub memory_refused : (r : Refusal) → early ≡ Refused r → (below : Verdict)
+    pub memory_refused : (r : Refusal) → tested ≡ Err r → (below : Verdict)
         → of_memory limits table store below ≡ refuse (refusal_number r)
-    memory_refused = lines_refused (of_memory limits table store) memory_decides early says
+    memory_refused = lines_refused (of_memory limits table store) memory_decides tested says
 
     -- past them the lines below decide
-    pub memory_passed : early ≡ Pass → (below : Verdict) → of_memory limits table store below ≡ below
-    memory_passed = lines_passed (of_memory limits table store) memory_decides early says
+    pub memory_passed : tested ≡ Ok tt → (below : Verdict) → of_memory limits table store below ≡ below
+    memory_passed = lines_passed (of_memory limits table store) memory_decides tested says
 
     -- past them the table and the store have their sizes
-    pub sizes_fit : LimitsFit limits → early ≡ Pass → SizesFit limits table store
-    sizes_fit fit e = (sizes_passed pass fit (sym (ap early_says e) ∙ says)).0
-
-    -- a label is tested past them
-    module _ (x : Label) where
-      pub label_unread : (r : Refusal) → early ≡ Refused r
-          → early_says early ≡ of_memory limits table store (of_label limits x pass)
-      label_unread r e = ap early_says e ∙ sym (memory_refused r e (of_label limits x pass))
-
-      -- past them its own tests decide
-      pub label_tested : early ≡ Pass → (said : Early) → early_says said ≡ of_label limits x pass
-          → early_says said ≡ of_memory limits table store (of_label limits x pass)
-      label_tested passed said says_label = says_label ∙ sym (memory_passed passed (of_label limits x pass))
-
-      module _ (passed : early ≡ Pass) where
-        pub label_empty : length x ≡ 0 → refuse 3 ≡ of_memory limits table store (of_label limits x pass)
-        label_empty none = rw (memory_passed passed (of_label limits x pass), eq-eqb _ _ none)
-
-        pub label_long : (length x ≡ 0 → ⊥) → limits.width < length x
-            → refuse 4 ≡ of_memory limits table store (of_label limits x pass)
-        label_long some long = rw (memory_passed passed (of_label limits x pass), ne_eqb _ _ some, lt-ltb _ _ long)
-
-        pub label_taken : (length x ≡ 0 → ⊥) → length x ≤ limits.width
-            → pass ≡ of_memory limits table store (of_label limits x pass)
-        label_taken some short = rw (memory_passed passed (of_label limits x pass), ne_eqb _ _ some, le-ltb _ _ short)
+    pub sizes_fit : LimitsFit limits → tested ≡ Ok tt → SizesFit limits table store
+    sizes_fit fit e = (sizes_passed pass fit (sym (ap test_says e) ∙ says)).0
 
   module _ (x : Label) where
     abbrev lengths_before : Verdict → Verdict
@@ -162,16 +122,16 @@ module _ (limits : Limits) (table store : List ℕ) where
         in_turn (of_memory limits table store) (of_label limits x) memory_decides
         (in_turn (line empty 3) (line long 4) (one_line empty 3) (one_line long 4))
 
-    module _ (early : Early) (says : early_says early ≡ lengths_before pass) where
+    module _ (tested : Result Unit Refusal) (says : test_says tested ≡ lengths_before pass) where
       -- a refusal by a length is the whole call's
-      pub lengths_refused : (r : Refusal) → early ≡ Refused r → (below : Verdict)
+      pub lengths_refused : (r : Refusal) → tested ≡ Err r → (below : Verdict)
           → lengths_before below ≡ refuse (refusal_number r)
-      lengths_refused = lines_refused lengths_before lengths_decide early says
+      lengths_refused = lines_refused lengths_before lengths_decide tested says
 
       -- past them the lines below decide
-      pub lengths_passed : early ≡ Pass → (below : Verdict) → lengths_before below ≡ below
-      lengths_passed = lines_passed lengths_before lengths_decide early says
+      pub lengths_passed : tested ≡ Ok tt → (below : Verdict) → lengths_before below ≡ below
+      lengths_passed = lines_passed lengths_before lengths_decide tested says
 
       -- past them the table and the store have their sizes
-      pub lengths_fit_lem : LimitsFit limits → early ≡ Pass → SizesFit limits table store
-      lengths_fit_lem fit e = (sizes_passed (of_label limits x pass) fit (sym (ap early_says e) ∙ says)).0
+      pub lengths_fit_lem : LimitsFit limits → tested ≡ Ok tt → SizesFit limits table store
+      lengths_fit_lem fit e = (sizes_passed (of_label limits x pass) fit (sym (ap test_says e) ∙ says)).0

@@ -5,61 +5,45 @@
 ghost use Rattle.std.specs.Prelude.{◌≡◌};
 ghost use Rattle.tables.specs.Outcomes.{pass, of_memory, of_length, of_label};
 ghost use Rattle.words.specs.Limits.{LimitsFit};
-ghost use Rattle.lengths.specs.Early.{early_says};
+ghost use Rattle.lengths.specs.Tests.{test_says};
 
 use types::{Limits, Refusal};
 
-// What the first tests of a call say: none refuses it, or the first that does.
-#[derive(Clone, Copy)]
-pub enum Early {
-    Pass,
-    Refused(Refusal),
-}
-
 // Refuses a table of another length by 1, and a store of another length by 2.
-pub fn of_memory(limits: Limits, table: &[u16], store: &[u8]) -> Early
+pub fn of_memory(limits: Limits, table: &[u16], store: &[u8]) -> Result<(), Refusal>
     requires { LimitsFit limits }
-    ensures { early_says result ≡ of_memory limits table.now store.now pass }
+    ensures { test_says result ≡ of_memory limits table.now store.now pass }
 {
     let table_len = 4 + 8 * limits.slots;
     let store_len = limits.slots * limits.width;
     if table.len() != table_len {
-        return Early::Refused(Refusal::WrongTable);
+        return Err(Refusal::WrongTable);
     }
     if store.len() != store_len {
-        return Early::Refused(Refusal::WrongStore);
+        return Err(Refusal::WrongStore);
     }
-    Early::Pass
+    Ok(())
 }
 
 // Refuses besides an empty label by 3, and one that is too long by 4.
-pub fn with_label(limits: Limits, table: &[u16], store: &[u8], label: &[u8]) -> Early
+pub fn with_label(limits: Limits, table: &[u16], store: &[u8], label: &[u8]) -> Result<(), Refusal>
     requires { LimitsFit limits }
-    ensures { early_says result
+    ensures { test_says result
         ≡ of_memory limits table.now store.now (of_label limits label.now pass) }
 {
-    let memory = of_memory(limits, table, store);
-    let Early::Pass = memory else {
-        return memory;
-    };
-    if label.len() == 0 {
-        return Early::Refused(Refusal::EmptyLabel);
-    }
-    if limits.width < label.len() {
-        return Early::Refused(Refusal::LongLabel);
-    }
-    Early::Pass
+    of_memory(limits, table, store)?;
+    of_length(limits, label.len())
 }
 
 // Refuses an empty label by 3, and one that is too long by 4, by its length.
-pub fn of_length(limits: Limits, len: usize) -> Early
-    ensures { early_says result ≡ of_length limits len pass }
+pub fn of_length(limits: Limits, len: usize) -> Result<(), Refusal>
+    ensures { test_says result ≡ of_length limits len pass }
 {
     if len == 0 {
-        return Early::Refused(Refusal::EmptyLabel);
+        return Err(Refusal::EmptyLabel);
     }
     if limits.width < len {
-        return Early::Refused(Refusal::LongLabel);
+        return Err(Refusal::LongLabel);
     }
-    Early::Pass
+    Ok(())
 }
