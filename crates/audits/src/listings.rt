@@ -1,18 +1,16 @@
 // The listing: from the lowest node of the tree on, each node's next.
 use crate::sound;
-use images::memory;
-use images::memory::Image;
+use images::memory::{Field, Head, Image};
 use plainmap::lists;
 use plainmap::lists::Lists;
-use std::num::wrapping_add_usize;
 
 // Writes so many slots into the list, in ascending order of their labels, by the links of a table that is sound.
 pub fn write(image: &mut Image, held: usize) {
     let mut tree = [0u16; 35910];
     sound::read_tree(image, &mut tree);
-    let mut slot = lowest(image, memory::word(image, memory::ROOT));
+    let mut slot = lowest(image, image.head(Head::Root));
     for i in 0..held {
-        memory::put(image, wrapping_add_usize(memory::LIST, i), slot);
+        image.put_listed(i, slot);
         slot = next(image, &tree, slot);
     }
 }
@@ -20,9 +18,9 @@ pub fn write(image: &mut Image, held: usize) {
 // The node at the left end of a node's subtree.
 fn lowest(image: &Image, slot: usize) -> usize {
     let mut at = slot;
-    let depth = memory::entry(image, memory::DEPTH);
+    let depth = image.sizes.depth;
     for turn in 0..depth {
-        let left = memory::field(image, at, memory::LEFT);
+        let left = image.field(at, Field::Left);
         if left == 0 {
             return at;
         }
@@ -33,7 +31,7 @@ fn lowest(image: &Image, slot: usize) -> usize {
 
 // The lowest node of the right subtree; where there is none, the upper neighbour above.
 fn next(image: &Image, tree: &Lists, slot: usize) -> usize {
-    let right = memory::field(image, slot, memory::RIGHT);
+    let right = image.field(slot, Field::Right);
     if right > 0 {
         return lowest(image, right);
     }

@@ -2,8 +2,7 @@
 // from the last node back to the root, and what is left must be the free chain and slots that are all zero.
 use crate::charges::charge_refusal;
 use crate::lengths::label_refusal;
-use images::memory;
-use images::memory::Image;
+use images::memory::{Field, Head, Image};
 use plainmap::lists;
 use plainmap::lists::Lists;
 use std::num::wrapping_add_usize;
@@ -24,11 +23,11 @@ const NO_TREE: usize = 65536;
 
 pub fn is_sound(image: &Image) -> bool {
     let mut work = [0u16; 35910];
-    if memory::word(image, memory::MARK) > memory::entry(image, memory::SLOTS) {
+    if image.head(Head::Mark) > image.sizes.slots {
         return false;
     }
     let count = read_tree(image, &mut work);
-    if count != memory::word(image, memory::HELD) {
+    if count != image.head(Head::Held) {
         return false;
     }
     if !nodes_hold(image, &work, count) {
@@ -45,8 +44,8 @@ pub fn is_sound(image: &Image) -> bool {
 
 // Reads the tree into the lists, and gives the number of its nodes; where its links give none, `NO_TREE`.
 pub fn read_tree(image: &Image, work: &mut Lists) -> usize {
-    let mut count = join(image, work, 0, memory::word(image, memory::ROOT), 0, 0);
-    let slots = memory::entry(image, memory::SLOTS);
+    let mut count = join(image, work, 0, image.head(Head::Root), 0, 0);
+    let slots = image.sizes.slots;
     for i in 0..slots {
         if i < count {
             let slot = lists::get(work, QUEUE, i);
@@ -63,18 +62,11 @@ fn join_sons(image: &Image, work: &mut Lists, count: usize, slot: usize) -> usiz
         image,
         work,
         count,
-        memory::field(image, slot, memory::LEFT),
+        image.field(slot, Field::Left),
         before,
         slot,
     );
-    join(
-        image,
-        work,
-        n,
-        memory::field(image, slot, memory::RIGHT),
-        slot,
-        after,
-    )
+    join(image, work, n, image.field(slot, Field::Right), slot, after)
 }
 
 // Takes a link's node, with its neighbours, into the lists.
@@ -89,10 +81,10 @@ fn join(
     if link == 0 {
         return count;
     }
-    if count >= memory::entry(image, memory::SLOTS) {
+    if count >= image.sizes.slots {
         return NO_TREE;
     }
-    if link > memory::word(image, memory::MARK) {
+    if link > image.head(Head::Mark) {
         return NO_TREE;
     }
     if lists::get(work, MET, link) > 0 {
@@ -134,11 +126,11 @@ fn node_holds(image: &Image, slot: usize, before: usize, after: usize) -> bool {
 
 // Whether a slot's length is a label's, its last word a charge, and its bytes past the label 0.
 fn label_holds(image: &Image, slot: usize) -> bool {
-    let len = memory::field(image, slot, memory::LENGTH);
+    let len = image.field(slot, Field::Length);
     if label_refusal(image, len) > 0 {
         return false;
     }
-    if charge_refusal(memory::field(image, slot, memory::CHARGE)) > 0 {
+    if charge_refusal(image.field(slot, Field::Charge)) > 0 {
         return false;
     }
     bytes_are_zero(image, slot, len)
@@ -155,10 +147,10 @@ fn prefix_holds(image: &Image, slot: usize, before: usize, after: usize) -> bool
     if place == 0 {
         place = 1;
     }
-    if memory::field(image, slot, memory::PLACE) != place {
+    if image.field(slot, Field::Place) != place {
         return false;
     }
-    memory::field(image, slot, memory::SIDE) == side
+    image.field(slot, Field::Side) == side
 }
 
 // The first place where two slots' labels hold different numbers; 0 where there is none or a slot is missing.
@@ -169,9 +161,9 @@ fn difference(image: &Image, one: usize, other: usize) -> usize {
     if other == 0 {
         return 0;
     }
-    let end = wrapping_add_usize(memory::entry(image, memory::WIDTH), 2);
+    let end = wrapping_add_usize(image.sizes.width, 2);
     for place in 1..end {
-        if memory::number_at(image, one, place) != memory::number_at(image, other, place) {
+        if image.number_at(one, place) != image.number_at(other, place) {
             return place;
         }
     }
@@ -187,7 +179,7 @@ fn ascends(image: &Image, one: usize, other: usize, place: usize) -> bool {
     if other == 0 {
         return true;
     }
-    memory::number_at(image, one, place) < memory::number_at(image, other, place)
+    image.number_at(one, place) < image.number_at(other, place)
 }
 
 // Counts the heights from the last node met to the root, each balance tested on the way.
@@ -204,9 +196,9 @@ fn heights_hold(image: &Image, work: &mut Lists, count: usize) -> bool {
 }
 
 fn height_holds(image: &Image, work: &mut Lists, slot: usize) -> bool {
-    let left = lists::get(work, HEIGHT, memory::field(image, slot, memory::LEFT));
-    let right = lists::get(work, HEIGHT, memory::field(image, slot, memory::RIGHT));
-    let balance = memory::field(image, slot, memory::BALANCE);
+    let left = lists::get(work, HEIGHT, image.field(slot, Field::Left));
+    let right = lists::get(work, HEIGHT, image.field(slot, Field::Right));
+    let balance = image.field(slot, Field::Balance);
     let mut height = left;
     if right > left {
         height = right;
@@ -220,8 +212,8 @@ fn height_holds(image: &Image, work: &mut Lists, slot: usize) -> bool {
 
 // Whether the free chain holds the slots up to the high mark that no node has, each once, and then ends.
 fn chain_holds(image: &Image, work: &mut Lists, count: usize) -> bool {
-    let mut link = memory::word(image, memory::FREE);
-    let mark = memory::word(image, memory::MARK);
+    let mut link = image.head(Head::Free);
+    let mark = image.head(Head::Mark);
     for i in count..mark {
         if link > mark {
             return false;
@@ -230,7 +222,7 @@ fn chain_holds(image: &Image, work: &mut Lists, count: usize) -> bool {
             return false;
         }
         lists::put(work, MET, link, 1);
-        link = memory::field(image, link, memory::LEFT);
+        link = image.field(link, Field::Left);
     }
     link == 0
 }
@@ -240,38 +232,32 @@ fn is_freed(image: &Image, work: &Lists, slot: usize) -> bool {
     if lists::get(work, MET, slot) > 0 {
         return false;
     }
-    slot_is_zero(image, slot, memory::RIGHT)
+    slot_is_zero(image, slot, &Field::ALL[1..])
 }
 
 // Whether the slots above the high mark are all zero.
 fn rest_is_zero(image: &Image) -> bool {
-    let slots = memory::entry(image, memory::SLOTS);
-    for slot in memory::word(image, memory::MARK)..slots {
-        if !slot_is_zero(image, wrapping_add_usize(slot, 1), memory::LEFT) {
+    let slots = image.sizes.slots;
+    for slot in image.head(Head::Mark)..slots {
+        if !slot_is_zero(image, wrapping_add_usize(slot, 1), &Field::ALL) {
             return false;
         }
     }
     true
 }
 
-// Whether a slot's words from one on, and its bytes, are 0.
-fn slot_is_zero(image: &Image, slot: usize, from: usize) -> bool {
-    if slot == 0 {
-        return false;
-    }
-    for j in from..8 {
-        if memory::field(image, slot, j) > 0 {
-            return false;
-        }
-    }
-    bytes_are_zero(image, slot, 0)
+// Whether some of a slot's words, and its bytes, are 0.
+fn slot_is_zero(image: &Image, slot: usize, fields: &[Field]) -> bool {
+    slot > 0
+        && fields.iter().all(|field| image.field(slot, *field) == 0)
+        && bytes_are_zero(image, slot, 0)
 }
 
 // Whether a slot's bytes from one on are 0.
 fn bytes_are_zero(image: &Image, slot: usize, from: usize) -> bool {
-    let width = memory::entry(image, memory::WIDTH);
+    let width = image.sizes.width;
     for j in from..width {
-        if memory::byte(image, slot, j) > 0 {
+        if image.byte(slot, j) > 0 {
             return false;
         }
     }

@@ -1,10 +1,9 @@
 // The charges that a call left.
-use images::memory;
-use images::memory::Image;
+use images::memory::{Field, Image};
 use plainmap::lists::Lists;
 
 pub fn of_slot(image: &Image, slot: usize) -> usize {
-    memory::field(image, slot, memory::CHARGE)
+    image.field(slot, Field::Charge)
 }
 
 // Whether every label that the map holds has its charge.

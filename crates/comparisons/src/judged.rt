@@ -2,8 +2,8 @@
 // with the map of the labels held, and an update's counts with the bytes shared with these.
 use crate::{answers, charges, maps};
 use audits::{lengths, sound};
-use images::memory::Image;
-use images::{memory, packing};
+use images::memory::{Head, Image};
+use images::packing;
 use oracles::{outcomes, updates};
 use reports::faults;
 use samples::calls::{DELETE, INSERT, SEARCH, SET_CHARGE};
@@ -27,7 +27,7 @@ pub fn fault(
         if fault > 0 {
             return fault;
         }
-    } else if !memory::same(&judged, left) {
+    } else if judged != *left {
         return faults::MEMORY;
     }
     if has_map(found, call) {
@@ -88,8 +88,8 @@ fn update_fault(found: &Image, left: &Image, call: usize, label: &[u8], entry: u
     if !charges::stay(found, left, packing::one(entry), charge_left(call)) {
         return faults::CHARGES;
     }
-    let before = memory::word(found, memory::HELD);
-    let after = memory::word(left, memory::HELD);
+    let before = found.head(Head::Held);
+    let after = left.head(Head::Held);
     let met = updates::on_sound(left, SEARCH, label, 0);
     if call == INSERT {
         if !stands(left, packing::one(entry), label) {
@@ -111,7 +111,7 @@ fn charge_left(call: usize) -> usize {
 // Whether a slot's bytes begin with a label's, in its spelling.
 fn stands(image: &Image, slot: usize, label: &[u8]) -> bool {
     for j in 0..label.len() {
-        if memory::byte(image, slot, j) != wide(label[j]) {
+        if image.byte(slot, j) != wide(label[j]) {
             return false;
         }
     }

@@ -2,7 +2,7 @@
 use audits::lengths;
 use images::memory::Image;
 use images::outputs::Output;
-use images::{memory, packing};
+use images::packing;
 use plainmap::lists::Lists;
 use plainmap::loads;
 
@@ -23,9 +23,5 @@ pub fn judge(image: &Image, file: &Output, n: usize, map: &mut Lists) -> usize {
 }
 
 fn empty(image: &Image, map: &mut Lists) {
-    plainmap::clear(
-        map,
-        memory::entry(image, memory::SLOTS),
-        memory::entry(image, memory::WIDTH),
-    );
+    plainmap::clear(map, image.sizes.slots, image.sizes.width);
 }

@@ -1,6 +1,5 @@
 // The plain map of what a sound table holds.
-use images::memory;
-use images::memory::Image;
+use images::memory::{Field, Head, Image};
 use plainmap::lists::Lists;
 use samples::shapes;
 use samples::shapes::Label;
@@ -9,9 +8,9 @@ use std::num::wrapping_add_usize;
 // The map of the labels in the slots of a table, each in its slot, with its value and its charge.
 pub fn of_table(image: &Image) -> Lists {
     let mut map = [0u16; 35910];
-    let width = memory::entry(image, memory::WIDTH);
-    plainmap::clear(&mut map, memory::entry(image, memory::SLOTS), width);
-    let mark = memory::word(image, memory::MARK);
+    let width = image.sizes.width;
+    plainmap::clear(&mut map, image.sizes.slots, width);
+    let mark = image.head(Head::Mark);
     for i in 0..mark {
         take(image, &mut map, wrapping_add_usize(i, 1));
     }
@@ -20,17 +19,17 @@ pub fn of_table(image: &Image) -> Lists {
 
 // Takes a slot's label into the map; a freed slot has none.
 fn take(image: &Image, map: &mut Lists, slot: usize) {
-    let n = memory::field(image, slot, memory::LENGTH);
+    let n = image.field(slot, Field::Length);
     if n > 0 {
         let mut label = [0u8; 66];
         read(image, slot, &mut label);
-        let value = memory::field(image, slot, memory::VALUE);
+        let value = image.field(slot, Field::Value);
         plainmap::hold(
             map,
             slot,
             shapes::opening(&label, n),
             (value % 65536) as u16,
-            memory::field(image, slot, memory::CHARGE),
+            image.field(slot, Field::Charge),
         );
     }
 }
@@ -38,6 +37,6 @@ fn take(image: &Image, map: &mut Lists, slot: usize) {
 // Reads a slot's bytes.
 fn read(image: &Image, slot: usize, label: &mut Label) {
     for j in 0..66usize {
-        label[j] = (memory::byte(image, slot, j) % 256) as u8;
+        label[j] = (image.byte(slot, j) % 256) as u8;
     }
 }

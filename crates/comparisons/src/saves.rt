@@ -15,7 +15,7 @@ pub fn fault(image: &Image, map: &Lists, left: &Output, room: usize, said: usize
     if said != judge(image, map, &mut due, room) {
         return faults::ANSWER;
     }
-    if outputs::same(&due, left) {
+    if due == *left {
         return 0;
     }
     faults::OUTPUT

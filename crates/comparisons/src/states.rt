@@ -1,8 +1,8 @@
 // What a call on a sound table left, compared with the map.
 use crate::charges;
 use audits::sound;
-use images::memory::Image;
-use images::{memory, packing};
+use images::memory::{Field, Head, Image};
+use images::packing;
 use plainmap::lists::Lists;
 use reports::faults;
 use samples::calls::SET_CHARGE;
@@ -37,21 +37,21 @@ fn memory_agrees(found: &Image, left: &Image, call: usize, said: usize) -> bool 
     if (call == SET_CHARGE) & updated {
         let slot = packing::one(said);
         let mut set = *found;
-        memory::put_field(&mut set, slot, memory::CHARGE, charges::of_slot(left, slot));
-        return memory::same(&set, left);
+        set.put_field(slot, Field::Charge, charges::of_slot(left, slot));
+        return set == *left;
     }
-    memory::same(found, left) != updated
+    (found == left) != updated
 }
 
 // The labels held, the high mark, and the slot freed last.
 fn head_agrees(image: &Image, map: &Lists) -> bool {
-    if memory::word(image, memory::HELD) != plainmap::held(map) {
+    if image.head(Head::Held) != plainmap::held(map) {
         return false;
     }
-    if memory::word(image, memory::MARK) != plainmap::high(map) {
+    if image.head(Head::Mark) != plainmap::high(map) {
         return false;
     }
-    memory::word(image, memory::FREE) == plainmap::last_freed(map)
+    image.head(Head::Free) == plainmap::last_freed(map)
 }
 
 // A listing's count and words, the later ones, which stay, and the values of the slots listed.
@@ -69,14 +69,14 @@ pub fn listing_agrees(image: &Image, map: &Lists, said: usize) -> bool {
 
 // Whether word `i` of the list is the slot of the map's label there, with its value, or has stayed.
 fn listed(image: &Image, map: &Lists, i: usize) -> bool {
-    let word = memory::entry(image, std::num::wrapping_add_usize(memory::LIST, i));
+    let word = image.listed(i);
     if i >= plainmap::held(map) {
         return word == 65535;
     }
     if word != plainmap::slot_at(map, i) {
         return false;
     }
-    memory::field(image, word, memory::VALUE) == plainmap::value_of(map, word)
+    image.field(word, Field::Value) == plainmap::value_of(map, word)
 }
 
 // Whether a label is the map's in a slot, byte by byte.

@@ -1,5 +1,5 @@
-// What a call is lent and what it says, as the tests hold them: memory, lengths and sizes in one array, an output in
-// another, an answer in one number.
+// What a call is lent and what it says, as the tests hold them: memory with its lengths and sizes, an output, an answer
+// in one number.
 #![tactic(auto)]
 
 pub mod memory;

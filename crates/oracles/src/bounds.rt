@@ -1,7 +1,7 @@
 // The three bounds on a search's counts: visits by the smallest tree, places by the label's length, places by the most
 // leading bytes that the label shares with any one label held, a number that the map gives.
-use images::memory::Image;
-use images::{memory, packing};
+use images::memory::{Head, Image};
+use images::packing;
 use std::num::wrapping_add_usize;
 
 // The nodes of the smallest height-balanced tree of a height.
@@ -19,10 +19,10 @@ pub fn smallest(height: usize) -> usize {
 // Whether a search of a label of so many bytes may visit and examine as many as its answer says.
 pub fn hold(image: &Image, len: usize, answer: usize) -> bool {
     let visits = packing::visits(answer);
-    if visits > memory::entry(image, memory::DEPTH) {
+    if visits > image.sizes.depth {
         return false;
     }
-    if smallest(visits) > memory::word(image, memory::HELD) {
+    if smallest(visits) > image.head(Head::Held) {
         return false;
     }
     packing::places(answer) <= wrapping_add_usize(len, visits)

@@ -2,11 +2,10 @@
 // what it says.
 use crate::updates;
 use audits::{lengths, listings, sound};
-use images::memory::Image;
+use images::memory::{Field, Head, Image};
+use images::packing;
 use images::packing::refused;
-use images::{memory, packing};
 use samples::calls::{CHECK, LAYOUT, LISTING, SET_CHARGE, VIEW, VIEW_CHECK};
-use std::num::wrapping_add_usize;
 
 // Makes a call on a label or a slot, with a charge. The bytes of the view's part are left in the list.
 pub fn judge(image: &mut Image, call: usize, label: &[u8], number: usize) -> usize {
@@ -43,16 +42,11 @@ fn done(why: usize) -> usize {
 }
 
 fn lay_out(image: &mut Image) -> usize {
-    clear(image, memory::TABLE, memory::entry(image, memory::WORDS));
-    clear(image, memory::STORE, memory::entry(image, memory::BYTES));
-    done(0)
-}
-
-// Clears so many entries from one on.
-fn clear(image: &mut Image, from: usize, count: usize) {
-    for i in 0..count {
-        memory::put(image, wrapping_add_usize(from, i), 0);
+    if let Some((table, store)) = image.table_and_store_mut() {
+        table.fill(0);
+        store.fill(0);
     }
+    done(0)
 }
 
 fn list(image: &mut Image) -> usize {
@@ -60,8 +54,8 @@ fn list(image: &mut Image) -> usize {
     if why > 0 {
         return refused(why);
     }
-    let held = memory::word(image, memory::HELD);
-    if held > memory::entry(image, memory::ROOM) {
+    let held = image.head(Head::Held);
+    if held > image.lent.room {
         return refused(10);
     }
     listings::write(image, held);
@@ -74,10 +68,10 @@ fn view_refusal(image: &Image, slot: usize) -> usize {
     if why > 0 {
         return why;
     }
-    if slot > memory::entry(image, memory::SLOTS) {
+    if slot > image.sizes.slots {
         return 11;
     }
-    if lengths::label_refusal(image, memory::field(image, slot, memory::LENGTH)) > 0 {
+    if lengths::label_refusal(image, image.field(slot, Field::Length)) > 0 {
         return 11;
     }
     0
@@ -88,10 +82,10 @@ fn view(image: &mut Image, slot: usize) -> usize {
     if view_refusal(image, slot) > 0 {
         return packing::plain(packing::VIEWED, 0);
     }
-    let len = memory::field(image, slot, memory::LENGTH);
+    let len = image.field(slot, Field::Length);
     for j in 0..len {
-        let byte = memory::byte(image, slot, j);
-        memory::put(image, wrapping_add_usize(memory::LIST, j), byte);
+        let byte = image.byte(slot, j);
+        image.put_listed(j, byte);
     }
     packing::plain(packing::VIEWED, len)
 }

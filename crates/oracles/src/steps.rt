@@ -1,7 +1,7 @@
 // The search steps.
 use audits::lengths::label_refusal;
-use images::memory::Image;
-use images::{memory, packing};
+use images::memory::{Field, Head, Image};
+use images::packing;
 use plainmap::labels::label_number;
 use std::num::{wrapping_add_usize, wrapping_sub_usize};
 
@@ -21,7 +21,7 @@ struct State {
 
 pub fn search(image: &Image, label: &[u8]) -> usize {
     let mut at = State {
-        link: memory::word(image, memory::ROOT),
+        link: image.head(Head::Root),
         found: false,
         p: 1,
         s: 1,
@@ -30,7 +30,7 @@ pub fn search(image: &Image, label: &[u8]) -> usize {
         visits: 0,
         places: 0,
     };
-    let n = memory::entry(image, memory::DEPTH);
+    let n = image.sizes.depth;
     for turn in 0..n {
         if !at.found {
             at = met(image, label, at);
@@ -43,7 +43,7 @@ pub fn search(image: &Image, label: &[u8]) -> usize {
 fn ended(image: &Image, at: State) -> usize {
     let slot = at.link;
     if at.found {
-        let value = memory::field(image, slot, memory::VALUE);
+        let value = image.field(slot, Field::Value);
         return packing::counted(packing::FOUND, at.visits, at.places, slot, value);
     }
     if slot > 0 {
@@ -54,17 +54,17 @@ fn ended(image: &Image, at: State) -> usize {
 
 // Whether a node that a search is to visit has a slot, length, place or side that no node has.
 fn broken(image: &Image, slot: usize) -> bool {
-    if slot > memory::entry(image, memory::SLOTS) {
+    if slot > image.sizes.slots {
         return true;
     }
-    let len = memory::field(image, slot, memory::LENGTH);
+    let len = image.field(slot, Field::Length);
     if label_refusal(image, len) > 0 {
         return true;
     }
-    if memory::field(image, slot, memory::SIDE) > 1 {
+    if image.field(slot, Field::Side) > 1 {
         return true;
     }
-    wrong_place(memory::field(image, slot, memory::PLACE), len)
+    wrong_place(image.field(slot, Field::Place), len)
 }
 
 fn wrong_place(place: usize, len: usize) -> bool {
@@ -86,36 +86,36 @@ fn met(image: &Image, label: &[u8], at: State) -> State {
 }
 
 // The search after a node from which it goes to a son.
-fn go(image: &Image, at: State, son: usize) -> State {
+fn go(image: &Image, at: State, son: Field) -> State {
     let mut next = at;
-    if son == memory::RIGHT {
+    if son == Field::Right {
         next.below = at.link;
     } else {
         next.above = at.link;
     }
-    next.link = memory::field(image, at.link, son);
+    next.link = image.field(at.link, son);
     next.visits = wrapping_add_usize(at.visits, 1);
     next
 }
 
 fn visit(image: &Image, label: &[u8], at: State) -> State {
-    let place = memory::field(image, at.link, memory::PLACE);
-    if memory::field(image, at.link, memory::SIDE) == 0 {
+    let place = image.field(at.link, Field::Place);
+    if image.field(at.link, Field::Side) == 0 {
         if (at.p == place) & (at.s > place) {
-            return go(image, at, memory::RIGHT);
+            return go(image, at, Field::Right);
         }
         if at.p < place {
-            return go(image, at, memory::RIGHT);
+            return go(image, at, Field::Right);
         }
         if at.p > place {
-            return go(image, at, memory::LEFT);
+            return go(image, at, Field::Left);
         }
     } else {
         if at.s < place {
-            return go(image, at, memory::LEFT);
+            return go(image, at, Field::Left);
         }
         if at.s > place {
-            return go(image, at, memory::RIGHT);
+            return go(image, at, Field::Right);
         }
     }
     compare(image, label, at, place)
@@ -127,14 +127,14 @@ fn compare(image: &Image, label: &[u8], at: State, from: usize) -> State {
     let mut next = at;
     next.places = examined(at.places, from, end);
     let sought = label_number(label, end);
-    let other = memory::number_at(image, at.link, end);
+    let other = image.number_at(at.link, end);
     if sought < other {
         next.s = end;
-        return go(image, next, memory::LEFT);
+        return go(image, next, Field::Left);
     }
     if sought > other {
         next.p = end;
-        return go(image, next, memory::RIGHT);
+        return go(image, next, Field::Right);
     }
     next.found = true;
     next.visits = wrapping_add_usize(at.visits, 1);
@@ -148,13 +148,13 @@ fn examined(places: usize, from: usize, end: usize) -> usize {
 
 // The last place that a comparison from a place on examines: the first difference, or the shared end.
 fn compared_to(image: &Image, slot: usize, label: &[u8], from: usize) -> usize {
-    let end = wrapping_add_usize(memory::entry(image, memory::WIDTH), 1);
+    let end = wrapping_add_usize(image.sizes.width, 1);
     for place in from..end {
         let sought = label_number(label, place);
         if sought == 0 {
             return place;
         }
-        if sought != memory::number_at(image, slot, place) {
+        if sought != image.number_at(slot, place) {
             return place;
         }
     }

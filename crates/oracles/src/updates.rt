@@ -1,9 +1,9 @@
 // The answers of searches and updates, and what a charge leaves.
 use crate::steps;
 use audits::{charges, lengths, sound};
-use images::memory::Image;
+use images::memory::{Field, Head, Image};
+use images::packing;
 use images::packing::refused;
-use images::{memory, packing};
 use samples::calls::{DELETE, INSERT, SEARCH, SET_CHARGE};
 use std::num::wrapping_add_usize;
 
@@ -50,18 +50,18 @@ fn inserted(image: &Image, met: usize) -> usize {
     if packing::kind(met) == packing::FOUND {
         return refused(7);
     }
-    if memory::word(image, memory::HELD) >= memory::entry(image, memory::SLOTS) {
+    if image.head(Head::Held) >= image.sizes.slots {
         return refused(9);
     }
     packing::updated(new_slot(image), met)
 }
 
 fn new_slot(image: &Image) -> usize {
-    let freed = memory::word(image, memory::FREE);
+    let freed = image.head(Head::Free);
     if freed > 0 {
         return freed;
     }
-    wrapping_add_usize(memory::word(image, memory::MARK), 1)
+    wrapping_add_usize(image.head(Head::Mark), 1)
 }
 
 // An update of the slot of a label that is held.
@@ -76,7 +76,7 @@ fn at_held(met: usize) -> usize {
 pub fn set_charge(image: &mut Image, label: &[u8], charge: usize) -> usize {
     let said = answer(image, SET_CHARGE, label, charge);
     if packing::kind(said) == packing::UPDATED {
-        memory::put_field(image, packing::one(said), memory::CHARGE, charge);
+        image.put_field(packing::one(said), Field::Charge, charge);
     }
     said
 }

@@ -1,7 +1,7 @@
 // The changes that damage a sound table: what is written where.
 use crate::charges;
-use images::memory::Image;
-use images::{memory, sizes};
+use images::memory::{Entry, Field, Head, Image};
+use images::sizes::Sizes;
 use samples::{numbers, shapes};
 use std::num::{wrapping_add_usize, wrapping_sub_usize};
 
@@ -33,20 +33,20 @@ pub const CHARGES: usize = 11;
 // An entry of the image, and what is written there.
 #[derive(Clone, Copy)]
 pub struct Written {
-    entry: usize,
+    entry: Entry,
     to: usize,
 }
 
 // A word of the table becomes a number; where there is no such word, nothing.
 pub fn word_to(word: usize, to: usize) -> Written {
-    let mut entry = 65535;
-    if word < 4101 {
-        entry = memory::TABLE + word;
-    }
     Written {
-        entry: entry,
-        to: to,
+        entry: Entry::Word(word),
+        to,
     }
+}
+
+fn head_to(word: Head, to: usize) -> Written {
+    word_to(word as usize, to)
 }
 
 // How many changes of a kind are made on a table of a shape: old labels on bytes 1 to 4 alone, and there nothing else.
@@ -82,9 +82,9 @@ pub fn make(image: &Image, copy: &mut Image, kind: usize, seed: u64) -> bool {
     let n = writes(image, kind);
     for j in 0..n {
         let written = write(image, kind, seed, j);
-        memory::put(copy, written.entry, written.to);
+        copy.put(written.entry, written.to);
     }
-    memory::unlike(image, copy) >= differing(kind)
+    image.unlike(copy) >= differing(kind)
 }
 
 // How many entries a change writes, at most.
@@ -95,8 +95,8 @@ fn writes(image: &Image, kind: usize) -> usize {
         2 => 3,
         FIELDS => 2,
         ROWS => 16,
-        PATH => 4 * (memory::entry(image, memory::DEPTH) % 65) + 5,
-        OLD => sizes::bytes(slots(image), memory::entry(image, memory::WIDTH)),
+        PATH => 4 * (image.sizes.depth % 65) + 5,
+        OLD => used(image).bytes(),
         CHARGES => slots(image),
         _ => 1,
     }
@@ -130,28 +130,36 @@ fn write(image: &Image, kind: usize, seed: u64, j: usize) -> Written {
 
 // The slots up to the high mark, and one above it if there is one.
 fn slots(image: &Image) -> usize {
-    let mark = memory::word(image, memory::MARK);
-    let all = memory::entry(image, memory::SLOTS);
+    let mark = image.head(Head::Mark);
+    let all = image.sizes.slots;
     if mark < all {
         return mark + 1;
     }
     all
 }
 
+// The sizes of an index that has these slots alone.
+fn used(image: &Image) -> Sizes {
+    Sizes {
+        slots: slots(image),
+        ..image.sizes
+    }
+}
+
 fn word_write(image: &Image, seed: u64) -> Written {
-    let word = numbers::below(seed, sizes::words(slots(image)));
+    let word = numbers::below(seed, used(image).words());
     word_to(
         word,
-        another(image, memory::word(image, word), numbers::next(seed)),
+        another(image, image.entry(Entry::Word(word)), numbers::next(seed)),
     )
 }
 
 fn byte_write(image: &Image, seed: u64) -> Written {
-    let all = sizes::bytes(slots(image), memory::entry(image, memory::WIDTH));
+    let all = used(image).bytes();
     let byte = numbers::below(seed, all);
     Written {
-        entry: wrapping_add_usize(memory::STORE, byte),
-        to: another(image, memory::store_byte(image, byte), numbers::next(seed)) % 256,
+        entry: Entry::Byte(byte),
+        to: another(image, image.entry(Entry::Byte(byte)), numbers::next(seed)) % 256,
     }
 }
 
@@ -163,10 +171,7 @@ fn another(image: &Image, found: usize, seed: u64) -> usize {
         1 => wrapping_sub_usize(found, 1),
         2 => 0,
         3 => numbers::below(other, 50),
-        4 => wrapping_add_usize(
-            numbers::below(other, 2),
-            memory::entry(image, memory::SLOTS),
-        ),
+        4 => wrapping_add_usize(numbers::below(other, 2), image.sizes.slots),
         _ => numbers::below(other, 65536),
     }
 }
@@ -177,21 +182,19 @@ fn any_slot(image: &Image, seed: u64) -> usize {
 }
 
 // Word `j` of a slot becomes a number.
-pub fn slot_write(slot: usize, j: usize, to: usize) -> Written {
-    word_to(
-        wrapping_sub_usize(wrapping_add_usize(8 * (slot % 513), j), 4),
-        to,
-    )
+pub fn slot_write(slot: usize, field: Field, to: usize) -> Written {
+    word_to(wrapping_sub_usize(8 * (slot % 513) + field as usize, 4), to)
 }
 
 // The eight words of two slots change places.
 fn row_write(image: &Image, seed: u64, j: usize) -> Written {
     let one = any_slot(image, seed);
     let other = any_slot(image, numbers::next(seed));
+    let field = Field::ALL[j % 8];
     if j < 8 {
-        return slot_write(one, j, memory::field(image, other, j));
+        return slot_write(one, field, image.field(other, field));
     }
-    slot_write(other, j - 8, memory::field(image, one, j - 8))
+    slot_write(other, field, image.field(one, field))
 }
 
 // A link of the head or of a node to a freed slot, or of the chain to a node.
@@ -202,25 +205,25 @@ fn freed_write(image: &Image, seed: u64) -> Written {
         return head_write(image, side, seed);
     }
     if in_use(image, owner) {
-        return slot_write(owner, side, slot_by_use(image, seed, false));
+        return slot_write(owner, link(side), slot_by_use(image, seed, false));
     }
-    slot_write(owner, memory::LEFT, slot_by_use(image, seed, true))
+    slot_write(owner, Field::Left, slot_by_use(image, seed, true))
 }
 
 fn head_write(image: &Image, side: usize, seed: u64) -> Written {
     if side == 0 {
-        return word_to(memory::ROOT, slot_by_use(image, seed, false));
+        return head_to(Head::Root, slot_by_use(image, seed, false));
     }
-    word_to(memory::FREE, slot_by_use(image, seed, true))
+    head_to(Head::Free, slot_by_use(image, seed, true))
 }
 
 pub fn in_use(image: &Image, slot: usize) -> bool {
-    memory::field(image, slot, memory::LENGTH) > 0
+    image.field(slot, Field::Length) > 0
 }
 
 // A slot up to the high mark that is in use, or one that is freed: the first from a drawn one on.
 pub fn slot_by_use(image: &Image, seed: u64, used: bool) -> usize {
-    let mark = memory::word(image, memory::MARK);
+    let mark = image.head(Head::Mark);
     let mut slot = numbers::below(numbers::next(numbers::next(seed)), mark);
     for i in 0..mark {
         slot = wrapping_add_usize(slot, 1);
@@ -238,13 +241,21 @@ pub fn slot_by_use(image: &Image, seed: u64, used: bool) -> usize {
 fn cycle_write(image: &Image, seed: u64) -> Written {
     let steps = numbers::next(seed);
     if numbers::below(seed, 4) == 0 {
-        let earlier = walked(image, memory::word(image, memory::FREE), 0, steps);
+        let earlier = walked(image, image.head(Head::Free), 0, steps);
         let later = walked(image, earlier, 0, numbers::next(steps));
-        return slot_write(later, memory::LEFT, earlier);
+        return slot_write(later, Field::Left, earlier);
     }
-    let above = walked(image, memory::word(image, memory::ROOT), seed, steps);
+    let above = walked(image, image.head(Head::Root), seed, steps);
     let below = walked(image, above, steps, numbers::next(steps));
-    slot_write(below, numbers::below(numbers::next(steps), 2), above)
+    slot_write(below, link(numbers::below(numbers::next(steps), 2)), above)
+}
+
+// The link of a slot on a side.
+fn link(side: usize) -> Field {
+    match side {
+        0 => Field::Left,
+        _ => Field::Right,
+    }
 }
 
 // Where up to seven links lead from a slot, on the sides that one number says, as many as another says.
@@ -260,7 +271,7 @@ fn walked(image: &Image, from: usize, sides: u64, steps: u64) -> usize {
 }
 
 fn son_or_self(image: &Image, slot: usize, side: usize) -> usize {
-    let son = memory::field(image, slot, side);
+    let son = image.field(slot, link(side));
     if son > 0 {
         return son;
     }
@@ -270,9 +281,9 @@ fn son_or_self(image: &Image, slot: usize, side: usize) -> usize {
 // The root's link, then four words of each node of a path from slot 1 on.
 fn path_write(image: &Image, seed: u64, j: usize) -> Written {
     if j == 0 {
-        return word_to(memory::ROOT, 1);
+        return head_to(Head::Root, 1);
     }
-    let fewer = wrapping_sub_usize(memory::entry(image, memory::DEPTH), 1);
+    let fewer = wrapping_sub_usize(image.sizes.depth, 1);
     let end = wrapping_add_usize(fewer, numbers::below(seed, 3));
     let side = numbers::below(numbers::next(seed), 2);
     let node = (j - 1) / 4 + 1;
@@ -287,17 +298,17 @@ fn path_write(image: &Image, seed: u64, j: usize) -> Written {
 fn node_write(node: usize, j: usize, side: usize, end: usize) -> Written {
     match j {
         0 => slot_write(node, onward(side), next_node(node, end)),
-        1 => slot_write(node, memory::PLACE, 2),
-        2 => slot_write(node, memory::SIDE, side),
-        _ => slot_write(node, memory::LENGTH, 1),
+        1 => slot_write(node, Field::Place, 2),
+        2 => slot_write(node, Field::Side, side),
+        _ => slot_write(node, Field::Length, 1),
     }
 }
 
 // The link that a walk takes at a node of a side whose place it has not reached.
-fn onward(side: usize) -> usize {
+fn onward(side: usize) -> Field {
     match side {
-        0 => memory::RIGHT,
-        _ => memory::LEFT,
+        0 => Field::Right,
+        _ => Field::Left,
     }
 }
 
@@ -311,23 +322,23 @@ fn next_node(node: usize, end: usize) -> usize {
 // The place, from 1 to 3, and the side of a node that up to seven links lead to.
 fn fields_write(image: &Image, seed: u64, j: usize) -> Written {
     let steps = numbers::next(seed);
-    let slot = walked(image, memory::word(image, memory::ROOT), seed, steps);
+    let slot = walked(image, image.head(Head::Root), seed, steps);
     let place = numbers::next(steps);
     if j == 0 {
         return slot_write(
             slot,
-            memory::PLACE,
+            Field::Place,
             wrapping_add_usize(numbers::below(place, 3), 1),
         );
     }
-    slot_write(slot, memory::SIDE, numbers::below(numbers::next(place), 2))
+    slot_write(slot, Field::Side, numbers::below(numbers::next(place), 2))
 }
 
 // Byte `j` of the store becomes the one that stands for it.
 fn old_write(image: &Image, seed: u64, j: usize) -> Written {
     Written {
-        entry: wrapping_add_usize(memory::STORE, j),
-        to: old_byte(memory::store_byte(image, j), seed),
+        entry: Entry::Byte(j),
+        to: old_byte(image.entry(Entry::Byte(j)), seed),
     }
 }
 

@@ -1,14 +1,13 @@
 // The changes of charges in a sound table.
 use crate::changes;
 use crate::changes::Written;
-use images::memory;
-use images::memory::Image;
+use images::memory::{Field, Head, Image};
 use samples::{charges, numbers};
 use std::num::{wrapping_add_usize, wrapping_sub_usize};
 
 // The last word of a slot in use, of a freed slot or of one never used becomes a number.
 pub fn one_write(image: &Image, seed: u64) -> Written {
-    let draw = numbers::mixed_seed(seed, memory::CHARGE);
+    let draw = numbers::mixed_seed(seed, Field::Charge as usize);
     let to = stored(numbers::below(numbers::next(draw), 9));
     match numbers::below(draw, 4) {
         0 => charge_write(changes::slot_by_use(image, seed, false), to),
@@ -24,7 +23,7 @@ pub fn each_write(image: &Image, seed: u64, j: usize) -> Written {
     if !changes::in_use(image, slot) {
         return charge_write(0, 0);
     }
-    let draw = numbers::mixed_seed(seed, memory::CHARGE);
+    let draw = numbers::mixed_seed(seed, Field::Charge as usize);
     if numbers::below(draw, 4) == 0 {
         return charge_write(slot, 0);
     }
@@ -37,7 +36,7 @@ fn charge_write(slot: usize, to: usize) -> Written {
     if slot == 0 {
         return changes::word_to(65535, 0);
     }
-    changes::slot_write(slot, memory::CHARGE, to)
+    changes::slot_write(slot, Field::Charge, to)
 }
 
 // Numbers that are charges and numbers that are none.
@@ -57,8 +56,8 @@ fn stored(i: usize) -> usize {
 
 // A slot above the high mark, or 0.
 fn unused(image: &Image, seed: u64) -> usize {
-    let mark = memory::word(image, memory::MARK);
-    let slots = memory::entry(image, memory::SLOTS);
+    let mark = image.head(Head::Mark);
+    let slots = image.sizes.slots;
     if mark >= slots {
         return 0;
     }

@@ -1,11 +1,10 @@
 // The charges at the edges, set on memory that is sound and on memory that is refused.
 use crate::planned;
 use crate::planned::Planned;
-use images::memory;
-use images::memory::Image;
+use images::memory::{Entry, Head, Image};
 use samples::charges;
 use samples::shapes::{LONGEST, ROSTER};
-use std::num::{wrapping_add_usize, wrapping_sub_usize};
+use std::num::wrapping_add_usize;
 
 // The memories: sound; with a table of a word less, a store of a byte less, or both; with a head that says one label
 // more than there is.
@@ -34,24 +33,15 @@ pub const CALLS: usize = 44;
 // Makes one of these memories of sound memory.
 pub fn make(image: &mut Image, state: usize) {
     if (state == TABLE_LESS) | (state == BOTH_LESS) {
-        less(image, memory::WORDS);
+        image.lent.words = image.lent.words.saturating_sub(1);
     }
     if (state == STORE_LESS) | (state == BOTH_LESS) {
-        less(image, memory::BYTES);
+        image.lent.bytes = image.lent.bytes.saturating_sub(1);
     }
     if state == UNSOUND {
-        let held = memory::word(image, memory::HELD);
-        memory::put(
-            image,
-            memory::TABLE + memory::HELD,
-            wrapping_add_usize(held, 1),
-        );
+        let held = image.head(Head::Held);
+        image.put(Entry::of_head(Head::Held), wrapping_add_usize(held, 1));
     }
-}
-
-fn less(image: &mut Image, length: usize) {
-    let own = memory::entry(image, length);
-    memory::put(image, length, wrapping_sub_usize(own, 1));
 }
 
 // Call `i` on a memory.

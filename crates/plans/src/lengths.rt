@@ -1,7 +1,7 @@
 // The lengths at which the tests lend memory, labels, lists and outputs, besides the index's own.
 use images::memory::Image;
+use images::outputs;
 use images::sizes::Sizes;
-use images::{memory, outputs, sizes};
 use std::num::{wrapping_add_usize, wrapping_sub_usize};
 
 // The pairs of a table's and a store's length: each of one less, the index's own and one more with each; then none of
@@ -32,39 +32,27 @@ pub const TURNS: usize = 4;
 pub fn lend(image: &mut Image, pair: usize) {
     let other = other_than(image);
     if pair == ALL_TO_OTHER {
-        memory::call(image, other);
+        image.sizes = other;
     } else {
-        lend_as(
-            image,
-            memory::WORDS,
-            words_lent(pair),
-            sizes::words(other.slots),
-        );
-        lend_as(
-            image,
-            memory::BYTES,
-            bytes_lent(pair),
-            sizes::bytes(other.slots, other.width),
-        );
+        image.lent.words = lent_as(image.lent.words, words_lent(pair), other.words());
+        image.lent.bytes = lent_as(image.lent.bytes, bytes_lent(pair), other.bytes());
     }
 }
 
 // The sizes of the index that is not called.
 fn other_than(image: &Image) -> Sizes {
-    if memory::is_page(image) {
-        return sizes::hub();
+    if image.is_page() {
+        return Sizes::HUB;
     }
-    sizes::page()
+    Sizes::PAGE
 }
 
-fn lend_as(image: &mut Image, length: usize, how: usize, others: usize) {
-    let own = memory::entry(image, length);
-    let lent = match how {
+fn lent_as(own: usize, how: usize, others: usize) -> usize {
+    match how {
         NONE => 0,
         OTHERS => others,
         _ => wrapping_sub_usize(wrapping_add_usize(own, how), 1),
-    };
-    memory::put(image, length, lent);
+    }
 }
 
 fn words_lent(pair: usize) -> usize {

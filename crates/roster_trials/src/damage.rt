@@ -2,7 +2,7 @@
 use crate::tallies::{CHANGES, SOUND, Tally};
 use crate::{starts, takings, tallies};
 use images::memory::Image;
-use images::{memory, outputs};
+use images::outputs;
 use plainmap::lists::Lists;
 use plans::{changes, lengths};
 use samples::numbers;
@@ -80,7 +80,7 @@ pub fn run_lent(out: Stdout, image: &mut Image, map: &mut Lists) -> io::Result<(
 fn lend(out: Stdout, image: &Image, map: &Lists, pair: usize, tally: Tally) -> io::Result<Tally> {
     let mut copy = *image;
     lengths::lend(&mut copy, pair);
-    if memory::is_page(&copy) {
+    if copy.is_page() {
         return Ok(tally);
     }
     take_all(out, &copy, map, true, tallies::more(tally, CHANGES, 1))

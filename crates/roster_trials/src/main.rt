@@ -11,13 +11,14 @@ mod starts;
 mod takings;
 mod tallies;
 
-use images::{memory, sizes};
+use images::memory::Image;
+use images::sizes::Sizes;
 use sheets::written;
 use std::io;
 
 fn main(rt: HostRuntime) -> io::Result<()> {
     let out = rt.stdout();
-    let mut image = memory::fresh(sizes::hub());
+    let mut image = Image::fresh(Sizes::HUB);
     let mut map = [0u16; 35910];
     for group in 0..written::NOT_SOUND {
         groups::run_written(out, &mut image, &mut map, group, 1)?;

@@ -3,7 +3,7 @@ use crate::tallies::Tally;
 use crate::{calls, tallies};
 use images::memory::Image;
 use images::outputs::Output;
-use images::{memory, packing};
+use images::packing;
 use plainmap::lists::Lists;
 use readings::{machine, values};
 use reports::faults;
@@ -88,7 +88,7 @@ fn left_fault(
     if !each(&mut due, &mut other, text, n, records, INSERT) {
         return faults::CHECK;
     }
-    if !memory::same(&due, left) {
+    if due != *left {
         return faults::MEMORY;
     }
     if records == 0 {

@@ -2,9 +2,9 @@
 // that the public inserts of its labels leave.
 use crate::{hub, states};
 use comparisons::loads;
-use images::memory::{Bytes, Image, Lent, Words};
+use images::memory::Image;
 use images::outputs::Output;
-use images::{memory, packing};
+use images::packing;
 use plainmap::lists::Lists;
 use plainmap::{BYTES, lists};
 use reports::{Round, faults};
@@ -36,7 +36,7 @@ fn fault(found: &Image, left: &Image, map: &Lists, due: usize, said: usize) -> u
     if packing::kind(due) == packing::LOADED {
         return loaded_fault(found, left, map);
     }
-    if memory::same(found, left) {
+    if found == left {
         return 0;
     }
     faults::MEMORY
@@ -48,65 +48,26 @@ fn loaded_fault(found: &Image, left: &Image, map: &Lists) -> usize {
     if !insert_all(&mut due, map) {
         return faults::CASE;
     }
-    if memory::same(&due, left) {
+    if due == *left {
         return states::map_fault(left, map);
     }
     faults::MEMORY
 }
 
+// Makes a load of the first bytes of a file.
 fn make(image: &mut Image, file: &Output, n: usize) -> usize {
-    let mut words = [0u16; 4101];
-    let mut bytes = [0u8; 32769];
-    memory::read(image, &mut words, &mut bytes);
-    let said = on_memory(&mut words, &mut bytes, memory::lengths(image), file, n);
-    memory::put_back(image, &words, &bytes);
-    said
-}
-
-fn on_memory(words: &mut Words, bytes: &mut Bytes, lent: Lent, file: &Output, n: usize) -> usize {
-    lend(words, bytes, lent, file, n)
-}
-
-// Makes a load of the first bytes of a file into the first words and bytes.
-fn lend(words: &mut [u16], bytes: &mut [u8], lent: Lent, file: &[u8], n: usize) -> usize {
-    let m = lent.words;
-    let l = lent.bytes;
-    if m > words.len() {
-        return 0;
+    match (image.table_and_store_mut(), file.get(..n)) {
+        (Some((table, store)), Some(file)) => exports::strap_load(table, store, file),
+        _ => 0,
     }
-    if l > bytes.len() {
-        return 0;
-    }
-    if n > file.len() {
-        return 0;
-    }
-    exports::strap_load(&mut words[..m], &mut bytes[..l], &file[..n])
 }
 
 // Lays out an empty table and inserts the labels of a map into it, slot by slot; whether no call is refused.
 fn insert_all(image: &mut Image, map: &Lists) -> bool {
-    let mut words = [0u16; 4101];
-    let mut bytes = [0u8; 32769];
-    memory::read(image, &mut words, &mut bytes);
-    let done = insert_into(&mut words, &mut bytes, memory::lengths(image), map);
-    memory::put_back(image, &words, &bytes);
-    done
-}
-
-fn insert_into(words: &mut Words, bytes: &mut Bytes, lent: Lent, map: &Lists) -> bool {
-    insert_lent(words, bytes, lent, map)
-}
-
-fn insert_lent(words: &mut [u16], bytes: &mut [u8], lent: Lent, map: &Lists) -> bool {
-    let m = lent.words;
-    let l = lent.bytes;
-    if m > words.len() {
-        return false;
+    match image.table_and_store_mut() {
+        Some((table, store)) => fill(table, store, map),
+        None => false,
     }
-    if l > bytes.len() {
-        return false;
-    }
-    fill(&mut words[..m], &mut bytes[..l], map)
 }
 
 fn fill(table: &mut [u16], store: &mut [u8], map: &Lists) -> bool {

@@ -1,7 +1,7 @@
 // The memory after a call on a sound table, compared with the map, by the second writing and by calls that read it.
 use crate::{calls, hub, page};
-use images::memory::{Bytes, Image, Lent, Words};
-use images::{memory, packing};
+use images::memory::Image;
+use images::packing;
 use plainmap::lists::Lists;
 use reports::faults;
 use samples::calls::{CHECK, LISTING};
@@ -33,28 +33,12 @@ fn calls_fault(left: &Image, map: &Lists) -> usize {
     faults::LISTING
 }
 
+// The fault of the check, or of a view.
 fn read_fault(image: &Image, map: &Lists) -> usize {
-    let mut words = [0u16; 4101];
-    let mut bytes = [0u8; 32769];
-    memory::read(image, &mut words, &mut bytes);
-    memory_fault(&words, &bytes, memory::lengths(image), map)
-}
-
-fn memory_fault(words: &Words, bytes: &Bytes, lent: Lent, map: &Lists) -> usize {
-    lent_fault(words, bytes, lent, map)
-}
-
-// The fault of the check, or of a view, on the first words and bytes.
-fn lent_fault(words: &[u16], bytes: &[u8], lent: Lent, map: &Lists) -> usize {
-    let n = lent.words;
-    let m = lent.bytes;
-    if n > words.len() {
-        return faults::MEMORY;
+    match image.table_and_store() {
+        Some((table, store)) => reading_fault(image.is_page(), table, store, map),
+        None => faults::MEMORY,
     }
-    if m > bytes.len() {
-        return faults::MEMORY;
-    }
-    reading_fault(lent.page, &words[..n], &bytes[..m], map)
 }
 
 fn reading_fault(of_page: bool, table: &[u16], store: &[u8], map: &Lists) -> usize {

@@ -1,8 +1,8 @@
 // The groups of loads of small files, cut short at each byte, or with one byte changed.
 use crate::loading;
 use images::memory::Image;
+use images::outputs;
 use images::outputs::Output;
-use images::{memory, outputs};
 use plainmap::files;
 use plainmap::lists::Lists;
 use plans::bytes;
@@ -15,7 +15,7 @@ use std::io::Stdout;
 
 // Makes the loads for each shape, and prints two lines for each; the hub's index alone has them.
 pub fn run(out: Stdout, image: &Image) -> io::Result<()> {
-    if memory::is_page(image) {
+    if image.is_page() {
         return Ok(());
     }
     for i in 0..bytes::SHAPES {
@@ -85,7 +85,7 @@ fn change(
     let at = k / bytes::WAYS;
     let mut copy = *file;
     put(&mut copy, at, k % bytes::WAYS);
-    if outputs::same(file, &copy) {
+    if *file == copy {
         return Ok(tally);
     }
     let changed = tallies::one_more(tally, CHANGES);

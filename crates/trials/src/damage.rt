@@ -1,6 +1,5 @@
 // The groups of calls on damaged memory: sound tables with words, bytes, rows or links changed.
 use crate::{saving, sequences};
-use images::memory;
 use images::memory::Image;
 use plans::changes;
 use plans::changes::{KINDS, OLD};
@@ -23,7 +22,7 @@ pub fn run(out: Stdout, image: &Image, shape: usize) -> io::Result<()> {
     for kind in 0..KINDS {
         run_kind(out, image, shape, kind, &mut saved)?;
     }
-    if !memory::is_page(image) {
+    if !image.is_page() {
         tallies::print_refused_saves(out, false, shape, 0, saved)?;
     }
     Ok(())
@@ -38,7 +37,7 @@ fn run_kind(
 ) -> io::Result<()> {
     if changes::times(shape, kind) > 0 {
         let tally = group(out, image, shape, kind, saved)?;
-        tallies::print_damage(out, memory::is_page(image), shape, kind, tally)?;
+        tallies::print_damage(out, image.is_page(), shape, kind, tally)?;
     }
     Ok(())
 }
@@ -111,9 +110,9 @@ fn every(
     tally: Tally,
 ) -> io::Result<Tally> {
     let mut label = [0u8; 66];
-    let width = memory::entry(image, memory::WIDTH);
+    let width = image.sizes.width;
     let n = write_label(&mut label, width, shape, kind, seed);
-    let slots = wrapping_add_usize(memory::entry(image, memory::SLOTS), 8);
+    let slots = wrapping_add_usize(image.sizes.slots, 8);
     let slot = numbers::below(numbers::next(seed), numbers::least(80, slots));
     let changed = tallies::one_more(tally, CHANGES);
     let counted = tallies::one_more_if(changed, SOUND, audits::sound::is_sound(image));
@@ -142,7 +141,7 @@ fn write_old(label: &mut Label, width: usize, shape: usize, seed: u64) -> usize 
 
 // How many of these calls the index has.
 pub fn calls_of(image: &Image) -> usize {
-    if memory::is_page(image) {
+    if image.is_page() {
         return SET_CHARGE;
     }
     ALL_CALLS

@@ -1,6 +1,5 @@
 // The group of charges at the edges on memory that is refused.
 use crate::damage;
-use images::memory;
 use images::memory::Image;
 use plans::edges;
 use plans::planned::Planned;
@@ -12,7 +11,7 @@ use std::io::Stdout;
 
 // Makes the calls on a table that holds a roster but for its first label; the hub's index alone has them.
 pub fn run(out: Stdout, image: &Image) -> io::Result<()> {
-    if memory::is_page(image) {
+    if image.is_page() {
         return Ok(());
     }
     let tally = made(out, image)?;
@@ -37,13 +36,13 @@ fn on_memory(
 ) -> io::Result<Tally> {
     let mut copy = *image;
     edges::make(&mut copy, state);
-    let changed = tallies::one_more_if(tally, CHANGES, !memory::same(image, &copy));
+    let changed = tallies::one_more_if(tally, CHANGES, *image != copy);
     call(out, &copy, edges::call(state, i), changed)
 }
 
 fn call(out: Stdout, image: &Image, planned: Planned, tally: Tally) -> io::Result<Tally> {
     let mut label = [0u8; 66];
-    let width = memory::entry(image, memory::WIDTH);
+    let width = image.sizes.width;
     let n = shapes::write(&mut label, width, planned.shape, planned.label);
     damage::tried(
         out,

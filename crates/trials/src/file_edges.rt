@@ -2,8 +2,8 @@
 // and of loads of these files.
 use crate::{loading, saving, sequences};
 use images::memory::Image;
+use images::outputs;
 use images::outputs::Output;
-use images::{memory, outputs};
 use plainmap::lists::Lists;
 use plans::files::Edge;
 use plans::{files, lengths, planned};
@@ -16,7 +16,7 @@ use std::io::Stdout;
 
 // Makes the tables of each group, and prints two lines for each; the hub's index alone has them.
 pub fn run(out: Stdout, image: &mut Image, map: &mut Lists) -> io::Result<()> {
-    if memory::is_page(image) {
+    if image.is_page() {
         return Ok(());
     }
     for group in 0..files::GROUPS {

@@ -1,8 +1,7 @@
 // The group of calls on memory of other lengths, and of listings into lists of other lengths.
 use crate::damage;
 use crate::damage::ALL_CALLS;
-use images::memory;
-use images::memory::Image;
+use images::memory::{Head, Image};
 use plans::lengths;
 use plans::planned::ANY_REFUSAL;
 use reports::tallies;
@@ -18,7 +17,7 @@ const SLOT: usize = 2;
 pub fn run(out: Stdout, image: &Image) -> io::Result<()> {
     let lent = lend(out, image)?;
     let tally = listings(out, image, lent)?;
-    tallies::print_lent(out, memory::is_page(image), shapes::ROSTER, 0, tally)
+    tallies::print_lent(out, image.is_page(), shapes::ROSTER, 0, tally)
 }
 
 // All calls on memory of each pair of lengths, with labels of each length.
@@ -38,7 +37,7 @@ fn lent(out: Stdout, image: &Image, k: usize, tally: Tally) -> io::Result<Tally>
     if k % ALL_CALLS >= damage::calls_of(&copy) {
         return Ok(tally);
     }
-    let width = memory::entry(image, memory::WIDTH);
+    let width = image.sizes.width;
     let n = lengths::label(k / ALL_CALLS / lengths::PAIRS, width);
     let seed = numbers::mixed_seed(numbers::SEED, k);
     damage::call(
@@ -54,7 +53,7 @@ fn lent(out: Stdout, image: &Image, k: usize, tally: Tally) -> io::Result<Tally>
 
 // Counts the lengths of a call where they are not the index's own.
 fn counted(image: &Image, copy: &Image, tally: Tally) -> Tally {
-    tallies::one_more_if(tally, CHANGES, !memory::same(image, copy))
+    tallies::one_more_if(tally, CHANGES, image != copy)
 }
 
 // Listings into lists of each length.
@@ -69,8 +68,8 @@ fn listings(out: Stdout, image: &Image, tally: Tally) -> io::Result<Tally> {
 
 fn listing(out: Stdout, image: &Image, i: usize, tally: Tally) -> io::Result<Tally> {
     let mut copy = *image;
-    let room = lengths::room(i, memory::word(image, memory::HELD));
-    memory::put(&mut copy, memory::ROOM, room);
+    let room = lengths::room(i, image.head(Head::Held));
+    copy.lent.room = room;
     let counted = counted(image, &copy, tally);
     damage::tried(out, &copy, LISTING, b"", 0, ANY_REFUSAL, counted)
 }

@@ -2,8 +2,8 @@
 // any file for the other groups. The hub's index alone has them.
 use crate::{saving, sequences};
 use images::memory::Image;
+use images::outputs;
 use images::outputs::Output;
-use images::{memory, outputs};
 use plainmap::lists::Lists;
 use plans::lengths;
 use reports::tallies::Tally;
@@ -26,7 +26,7 @@ pub fn after(
     i: usize,
     tally: &mut Tally,
 ) -> io::Result<()> {
-    if memory::is_page(image) | (i % EVERY != TURN) {
+    if image.is_page() | (i % EVERY != TURN) {
         return Ok(());
     }
     let counted = saved(out, image, map, *tally)?;
@@ -67,7 +67,7 @@ fn into(
     map: &mut Lists,
     tally: Tally,
 ) -> io::Result<Tally> {
-    memory::spoil(image, numbers::mixed(n, refusal));
+    image.spoil(numbers::mixed(n, refusal));
     let round = rounds::loading::made(image, file, n, map);
     count(out, round, refusal, plainmap::held(map), tally)
 }

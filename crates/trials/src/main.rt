@@ -15,7 +15,6 @@ mod written_files;
 
 use images::memory::Image;
 use images::sizes::Sizes;
-use images::{memory, sizes};
 use plainmap::lists::Lists;
 use plans::groups;
 use plans::groups::Plan;
@@ -24,13 +23,13 @@ use std::io::Stdout;
 
 fn main(rt: HostRuntime) -> io::Result<()> {
     let out = rt.stdout();
-    run_index(out, sizes::hub())?;
-    run_index(out, sizes::page())
+    run_index(out, Sizes::HUB)?;
+    run_index(out, Sizes::PAGE)
 }
 
 // All groups on the index of these sizes.
 fn run_index(out: Stdout, sizes: Sizes) -> io::Result<()> {
-    let mut image = memory::fresh(sizes);
+    let mut image = Image::fresh(sizes);
     let mut map = [0u16; 35910];
     run(out, &mut image, &mut map)?;
     lent::run(out, &image)?;
@@ -49,7 +48,7 @@ fn run_files(out: Stdout, image: &Image) -> io::Result<()> {
 
 fn run(out: Stdout, image: &mut Image, map: &mut Lists) -> io::Result<()> {
     for group in 0..groups::GROUPS {
-        let plan = groups::plan_of(group, memory::entry(image, memory::SLOTS));
+        let plan = groups::plan_of(group, image.sizes.slots);
         run_plan(out, image, map, plan)?;
     }
     Ok(())
@@ -57,7 +56,7 @@ fn run(out: Stdout, image: &mut Image, map: &mut Lists) -> io::Result<()> {
 
 // A group, and the damaged memories of a table that it prepared; nothing where the index does not have its calls.
 fn run_plan(out: Stdout, image: &mut Image, map: &mut Lists, plan: Plan) -> io::Result<()> {
-    if groups::is_hubs(plan) & memory::is_page(image) {
+    if groups::is_hubs(plan) & image.is_page() {
         return Ok(());
     }
     sequences::run(out, image, map, plan)?;

@@ -1,7 +1,6 @@
 // The saves: after calls on sound tables, on damaged memory, and on memory of other lengths. The hub's index alone has
 // them.
 use comparisons::saves;
-use images::memory;
 use images::memory::Image;
 use plainmap::files;
 use plainmap::lists::Lists;
@@ -24,7 +23,7 @@ pub fn after(
     i: usize,
     tally: &mut Tally,
 ) -> io::Result<()> {
-    if memory::is_page(image) | (i % EVERY != EVERY - 1) {
+    if image.is_page() | (i % EVERY != EVERY - 1) {
         return Ok(());
     }
     let counted = in_turn(out, image, map, i / EVERY, *tally)?;
@@ -34,7 +33,7 @@ pub fn after(
 
 // Makes a save of changed memory, and counts the change.
 pub fn on_damaged(out: Stdout, image: &Image, seed: u64, tally: &mut Tally) -> io::Result<()> {
-    if memory::is_page(image) {
+    if image.is_page() {
         return Ok(());
     }
     let map = saves::map_of(image);
@@ -75,7 +74,7 @@ pub fn count(out: Stdout, round: Round, tally: Tally) -> io::Result<Tally> {
 pub fn run_lent(out: Stdout, image: &Image) -> io::Result<()> {
     let map = saves::map_of(image);
     let tally = lend(out, image, &map)?;
-    tallies::print_refused_saves(out, memory::is_page(image), shapes::ROSTER, 1, tally)
+    tallies::print_refused_saves(out, image.is_page(), shapes::ROSTER, 1, tally)
 }
 
 fn lend(out: Stdout, image: &Image, map: &Lists) -> io::Result<Tally> {
@@ -90,10 +89,10 @@ fn lend(out: Stdout, image: &Image, map: &Lists) -> io::Result<Tally> {
 fn lent(out: Stdout, image: &Image, map: &Lists, k: usize, tally: Tally) -> io::Result<Tally> {
     let mut copy = *image;
     lengths::lend(&mut copy, k / lengths::OUTPUTS);
-    if memory::is_page(&copy) {
+    if copy.is_page() {
         return Ok(tally);
     }
     let room = lengths::output(k % lengths::OUTPUTS, files::length(map));
-    let changed = tallies::one_more_if(tally, CHANGES, !memory::same(image, &copy));
+    let changed = tallies::one_more_if(tally, CHANGES, *image != copy);
     count(out, rounds::saving::made(&copy, map, room), changed)
 }

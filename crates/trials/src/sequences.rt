@@ -1,6 +1,5 @@
 // The groups of calls on sound tables, made and counted, and of the hub's with saves and loads among them.
 use crate::{loading, saving};
-use images::memory;
 use images::memory::Image;
 use plainmap::lists::Lists;
 use plans::groups;
@@ -19,8 +18,8 @@ pub fn run(out: Stdout, image: &mut Image, map: &mut Lists, plan: Plan) -> io::R
     let mut saved = tallies::none();
     let mut loaded = tallies::none();
     let tally = made(out, image, map, plan, &mut saved, &mut loaded)?;
-    tallies::print_sequence(out, memory::is_page(image), plan.shape, plan.way, tally)?;
-    if !memory::is_page(image) {
+    tallies::print_sequence(out, image.is_page(), plan.shape, plan.way, tally)?;
+    if !image.is_page() {
         tallies::print_saves(out, plan.shape, plan.way, saved)?;
         tallies::print_loads(out, plan.shape, plan.way, loaded)?;
     }
@@ -30,11 +29,7 @@ pub fn run(out: Stdout, image: &mut Image, map: &mut Lists, plan: Plan) -> io::R
 // Empties an index and a map.
 pub fn empty(image: &mut Image, map: &mut Lists) {
     rounds::calls::make(image, samples::calls::LAYOUT, b"", 0);
-    plainmap::clear(
-        map,
-        memory::entry(image, memory::SLOTS),
-        memory::entry(image, memory::WIDTH),
-    );
+    plainmap::clear(map, image.sizes.slots, image.sizes.width);
 }
 
 fn made(
@@ -92,7 +87,7 @@ pub fn numbered(
     tally: Tally,
 ) -> io::Result<Tally> {
     let mut label = [0u8; 66];
-    let width = memory::entry(image, memory::WIDTH);
+    let width = image.sizes.width;
     let n = shapes::write(&mut label, width, planned.shape, planned.label);
     let round = labelled(out, image, map, planned, shapes::opening(&label, n), number)?;
     Ok(tallies::count(tally, planned.call, round, plainmap::held(map)))

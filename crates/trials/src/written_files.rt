@@ -1,7 +1,7 @@
 // The groups of loads of files written out, and of some of these into memory of other lengths.
 use crate::loading;
 use images::memory::Image;
-use images::{memory, outputs};
+use images::outputs;
 use plans::planned::ANY_REFUSAL;
 use plans::{lengths, written};
 use reports::tallies;
@@ -12,7 +12,7 @@ use std::io::Stdout;
 
 // Makes the loads of each group, and prints a line for each; the hub's index alone has them.
 pub fn run(out: Stdout, image: &Image) -> io::Result<()> {
-    if memory::is_page(image) {
+    if image.is_page() {
         return Ok(());
     }
     for group in 0..written::GROUPS {
@@ -51,7 +51,7 @@ fn load(
 // Loads the first file of each group into memory of each pair of lengths, and prints their line.
 pub fn run_lent(out: Stdout, image: &Image) -> io::Result<()> {
     let tally = lend(out, image)?;
-    tallies::print_file_loads(out, memory::is_page(image), shapes::ROSTER, 2, tally)
+    tallies::print_file_loads(out, image.is_page(), shapes::ROSTER, 2, tally)
 }
 
 fn lend(out: Stdout, image: &Image) -> io::Result<Tally> {
@@ -66,9 +66,9 @@ fn lend(out: Stdout, image: &Image) -> io::Result<Tally> {
 fn lent(out: Stdout, image: &Image, k: usize, tally: Tally) -> io::Result<Tally> {
     let mut copy = *image;
     lengths::lend(&mut copy, k / written::GROUPS);
-    if memory::is_page(&copy) {
+    if copy.is_page() {
         return Ok(tally);
     }
-    let changed = tallies::one_more_if(tally, CHANGES, !memory::same(image, &copy));
+    let changed = tallies::one_more_if(tally, CHANGES, *image != copy);
     load(out, &copy, k % written::GROUPS, 0, ANY_REFUSAL, changed)
 }
