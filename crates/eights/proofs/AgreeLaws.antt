@@ -3,7 +3,7 @@
 -- `agree_next`, `agree_stops`: bytes of one number leave it to the next index, others end it.
 -- `agree_all`: no index before the place is left.
 -- `order_unlike`, `order_alike`: the order at a place, from the test whether they agree before it.
-use Prim.Native.Nat.{ℕ, suc, ◌+◌, ◌-◌, ◌≤◌, ◌<◌, compare, Ordering}
+use Prim.Native.Nat.{ℕ, suc, ◌+◌, ◌-◌, ◌≤◌, ◌<◌, compare, Ordering as Compared}
 use mathlib.Core.Path.{◌≡◌, refl, sym, ap, ◌∙◌}
 use mathlib.Core.Bool.{Bool, true, false}
 use native.Mathlib.Numerals.{add-one}
@@ -11,13 +11,13 @@ use native.Mathlib.Omega.{arith}
 use lib.Dec.{eqb, leb}
 use lib.ListN.{length, get_or}
 use borrow.Author.Tests.{lt-leb, le-leb, leb-true, leb-false, eqb-true, eqb-false}
+use Rattle.std.specs.declared.cmp.Ordering.{Ordering}
+use Rattle.std.specs.declared.cmp.Ordering.TheVariants.{Equal}
 use Rattle.labels.specs.Labels.{Label, Comparison, number_of, place_of, compare_numbers}
 use Rattle.labels.specs.Labels.{compare_labels, compare_from, difference_place}
 use Rattle.labels.proofs.Numbers.{Ordered, is_lt, is_eq, is_gt, ordered}
 use Rattle.labels.proofs.Ends.{ends_of_labels}
 use Rattle.labels.proofs.Late.{compare_equal, compare_late}
-use Rattle.orders.specs.declared.Order.{Order}
-use Rattle.orders.specs.declared.Order.TheVariants.{Same}
 use Rattle.compares.specs.Compares.{rest, order_at}
 use Rattle.compares.proofs.Laws.{rest_later, rest_both, order_elsewhere}
 
@@ -25,7 +25,7 @@ use Rattle.compares.proofs.Laws.{rest_later, rest_both, order_elsewhere}
 ends_unlike : (m n i : ℕ) (k : Comparison) → (m ≡ n → ⊥) → place_of (compare_numbers (compare m n) i k) ≡ i
 ends_unlike m n i k other = go (ordered m n)
   where
-    go : {o : Ordering} → Ordered m n o → place_of (compare_numbers o i k) ≡ i
+    go : {o : Compared} → Ordered m n o → place_of (compare_numbers o i k) ≡ i
     go (is_lt less) = refl
     go (is_eq equal) = absurd (other equal)
     go (is_gt more) = refl
@@ -75,13 +75,13 @@ module _ (x y : Label) (place : ℕ) (positive : 1 ≤ place) where
 
   -- the order at the place, from the test whether they agree before it
   module _ (agree : Bool) (test : agree ≡ leb place (difference_place x y)) where
-    pub order_unlike : agree ≡ false → Same ≡ order_at place (compare_labels x y)
+    pub order_unlike : agree ≡ false → Equal ≡ order_at place (compare_labels x y)
     unfolding difference_place
     order_unlike is =
         let past = leb-false place (place_of (compare_labels x y)) (sym test ∙ is) in
         order_elsewhere (compare_labels x y) place (λ e. omega (arith, e, past))
 
-    pub order_alike : (o : Order) → agree ≡ true → o ≡ order_at place (compare_from place x y)
+    pub order_alike : (o : Ordering) → agree ≡ true → o ≡ order_at place (compare_from place x y)
         → o ≡ order_at place (compare_labels x y)
     unfolding difference_place
     order_alike o is e = e ∙ ap (order_at place) (compare_late place x y positive (leb-true _ _ (sym test ∙ is)))

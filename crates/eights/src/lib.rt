@@ -8,7 +8,7 @@ ghost use Rattle.compares.specs.Compares.{comparison_of, rest, order_at, HavePla
 ghost use Rattle.eights.specs.Eights.{AreBytes, Packed, SameEight};
 
 use compares::Compared;
-use orders::Order;
+use std::cmp::Ordering;
 
 // Four bytes as one number.
 fn four_bytes(a: u8, b: u8, c: u8, d: u8) -> u64
@@ -65,7 +65,7 @@ pub fn compare(x: &[u8], y: &[u8], d: usize) -> Compared
     ensures result_value { comparison_of result ≡ compare_from d x.now y.now }
     ensures ends_within { EndsWithin d y.now result.place }
 {
-    let end = compares::shorter(x.len(), y.len());
+    let end = x.len().min(y.len());
     let i = past_same(x, y, d - 1, end);
     compares::by_table(x, y, i + 1)
 }
@@ -93,12 +93,12 @@ fn agree_before(x: &[u8], y: &[u8], place: usize) -> bool
 }
 
 // The order of two labels by a place: the same where they part at another, or not at all.
-pub fn order_at(x: &[u8], y: &[u8], place: usize) -> Order
+pub fn order_at(x: &[u8], y: &[u8], place: usize) -> Ordering
     requires { 1 ≤ place }
     ensures { result ≡ order_at place (compare_labels x.now y.now) }
 {
     if !agree_before(x, y, place) {
-        return Order::Same;
+        return Ordering::Equal;
     }
     compares::at_place(x, y, place)
 }
