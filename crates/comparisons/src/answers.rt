@@ -5,14 +5,14 @@ use oracles::{bounds, updates};
 use plainmap::Said;
 use plainmap::lists::Lists;
 use reports::faults;
-use samples::calls::{INSERT, SEARCH, SET_CHARGE};
+use samples::calls::Call;
 
 // Makes a search or an update on the map, with a value or a charge.
-pub fn on_map(map: &mut Lists, call: usize, label: &[u8], number: usize) -> Said {
+pub fn on_map(map: &mut Lists, call: Call, label: &[u8], number: usize) -> Said {
     match call {
-        SEARCH => plainmap::search(map, label),
-        INSERT => plainmap::insert(map, label, (number % 65536) as u16),
-        SET_CHARGE => plainmap::set_charge(map, label, number),
+        Call::Search => plainmap::search(map, label),
+        Call::Insert => plainmap::insert(map, label, (number % 65536) as u16),
+        Call::SetCharge => plainmap::set_charge(map, label, number),
         _ => plainmap::delete(map, label),
     }
 }
@@ -21,7 +21,7 @@ pub fn on_map(map: &mut Lists, call: usize, label: &[u8], number: usize) -> Said
 // shares with one held before the call.
 pub fn fault(
     found: &Image,
-    call: usize,
+    call: Call,
     label: &[u8],
     number: usize,
     shared: usize,
@@ -49,7 +49,7 @@ pub fn bounds_fault(found: &Image, label: &[u8], shared: usize, said: usize) -> 
 
 // What the search steps say.
 fn searched(found: &Image, label: &[u8]) -> usize {
-    updates::on_sound(found, SEARCH, label, 0)
+    updates::on_sound(found, Call::Search, label, 0)
 }
 
 fn counts_fault(found: &Image, len: usize, shared: usize, answer: usize) -> usize {
@@ -71,13 +71,13 @@ pub fn reached(found: &Image, label: &[u8], shared: usize, said: usize) -> bool 
 }
 
 // What the map said, with the counts of an answer.
-fn as_map(call: usize, said: usize, plain: Said) -> usize {
+fn as_map(call: Call, said: usize, plain: Said) -> usize {
     if plain.refusal > 0 {
         return packing::refused(plain.refusal);
     }
     let visits = packing::visits(said);
     let places = packing::places(said);
-    if call != SEARCH {
+    if call != Call::Search {
         return packing::counted(packing::UPDATED, visits, places, plain.slot, 0);
     }
     if plain.slot == 0 {

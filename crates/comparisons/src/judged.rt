@@ -6,14 +6,14 @@ use images::memory::{Head, Image};
 use images::packing;
 use oracles::{outcomes, updates};
 use reports::faults;
-use samples::calls::{DELETE, INSERT, SEARCH, SET_CHARGE};
+use samples::calls::Call;
 use std::num::wrapping_add_usize;
 
 // The fault of a call on a label, with a value, a slot or a charge: its answer, what it left, or its counts.
 pub fn fault(
     found: &Image,
     left: &Image,
-    call: usize,
+    call: Call,
     label: &[u8],
     number: usize,
     said: usize,
@@ -22,7 +22,7 @@ pub fn fault(
     if said != outcomes::judge(&mut judged, call, label, number) {
         return faults::ANSWER;
     }
-    if (packing::kind(said) == packing::UPDATED) & (call != SET_CHARGE) {
+    if (packing::kind(said) == packing::UPDATED) & (call != Call::SetCharge) {
         let fault = update_fault(found, left, call, label, inserted_as(said, number));
         if fault > 0 {
             return fault;
@@ -37,9 +37,9 @@ pub fn fault(
 }
 
 // Whether a call is one on a label, on sound memory of the right lengths: of any other memory there is no map.
-fn has_map(image: &Image, call: usize) -> bool {
+fn has_map(image: &Image, call: Call) -> bool {
     match call {
-        SEARCH | INSERT | DELETE | SET_CHARGE => is_sound(image),
+        Call::Search | Call::Insert | Call::Delete | Call::SetCharge => is_sound(image),
         _ => false,
     }
 }
@@ -56,14 +56,14 @@ fn is_sound(image: &Image) -> bool {
 fn labelled_fault(
     found: &Image,
     left: &Image,
-    call: usize,
+    call: Call,
     label: &[u8],
     number: usize,
     said: usize,
 ) -> usize {
     let mut map = maps::of_table(found);
     let shared = plainmap::most_shared(&map, label);
-    if (call == INSERT) | (call == DELETE) {
+    if (call == Call::Insert) | (call == Call::Delete) {
         return answers::bounds_fault(found, label, shared, said);
     }
     let plain = answers::on_map(&mut map, call, label, number);
@@ -81,7 +81,7 @@ fn inserted_as(said: usize, value: usize) -> usize {
 
 // The fault of what an insert or a delete left that was not refused: a table that is not sound, on which a charge has
 // changed, or on which it is not done.
-fn update_fault(found: &Image, left: &Image, call: usize, label: &[u8], entry: usize) -> usize {
+fn update_fault(found: &Image, left: &Image, call: Call, label: &[u8], entry: usize) -> usize {
     if !sound::is_sound(left) {
         return faults::SOUND;
     }
@@ -90,8 +90,8 @@ fn update_fault(found: &Image, left: &Image, call: usize, label: &[u8], entry: u
     }
     let before = found.head(Head::Held);
     let after = left.head(Head::Held);
-    let met = updates::on_sound(left, SEARCH, label, 0);
-    if call == INSERT {
+    let met = updates::on_sound(left, Call::Search, label, 0);
+    if call == Call::Insert {
         if !stands(left, packing::one(entry), label) {
             return faults::MEMORY;
         }
@@ -101,8 +101,8 @@ fn update_fault(found: &Image, left: &Image, call: usize, label: &[u8], entry: u
 }
 
 // The charge of the slot that an insert takes, 255 for unknown, or that a delete frees, 0.
-fn charge_left(call: usize) -> usize {
-    if call == INSERT {
+fn charge_left(call: Call) -> usize {
+    if call == Call::Insert {
         return 255;
     }
     0

@@ -1,7 +1,6 @@
 // The plain map of what a sound table holds.
 use images::memory::{Field, Head, Image};
 use plainmap::lists::Lists;
-use samples::shapes;
 use samples::shapes::Label;
 use std::num::wrapping_add_usize;
 
@@ -21,22 +20,23 @@ pub fn of_table(image: &Image) -> Lists {
 fn take(image: &Image, map: &mut Lists, slot: usize) {
     let n = image.field(slot, Field::Length);
     if n > 0 {
-        let mut label = [0u8; 66];
-        read(image, slot, &mut label);
+        let label = read(image, slot, n);
         let value = image.field(slot, Field::Value);
         plainmap::hold(
             map,
             slot,
-            shapes::opening(&label, n),
+            label.as_slice(),
             (value % 65536) as u16,
             image.field(slot, Field::Charge),
         );
     }
 }
 
-// Reads a slot's bytes.
-fn read(image: &Image, slot: usize, label: &mut Label) {
-    for j in 0..66usize {
-        label[j] = (image.byte(slot, j) % 256) as u8;
+// The first bytes of a slot, so many.
+fn read(image: &Image, slot: usize, n: usize) -> Label {
+    let mut label = Label::EMPTY;
+    for j in 0..n {
+        label.push((image.byte(slot, j) % 256) as u8);
     }
+    label
 }

@@ -5,11 +5,11 @@ use images::memory::{Field, Head, Image};
 use images::packing;
 use plainmap::lists::Lists;
 use reports::faults;
-use samples::calls::SET_CHARGE;
+use samples::calls::Call;
 
 // The fault of what a call left: other memory than it is to leave; a table that is not sound; another head than the
 // map's; another charge of a label.
-pub fn fault(found: &Image, left: &Image, map: &Lists, call: usize, said: usize) -> usize {
+pub fn fault(found: &Image, left: &Image, map: &Lists, call: Call, said: usize) -> usize {
     if !memory_agrees(found, left, call, said) {
         return faults::MEMORY;
     }
@@ -32,9 +32,9 @@ pub fn map_fault(left: &Image, map: &Lists) -> usize {
 
 // Whether a call that updated left other memory, and any other call the same; one that set a charge changed at most
 // that word.
-fn memory_agrees(found: &Image, left: &Image, call: usize, said: usize) -> bool {
+fn memory_agrees(found: &Image, left: &Image, call: Call, said: usize) -> bool {
     let updated = packing::kind(said) == packing::UPDATED;
-    if (call == SET_CHARGE) & updated {
+    if (call == Call::SetCharge) & updated {
         let slot = packing::one(said);
         let mut set = *found;
         set.put_field(slot, Field::Charge, charges::of_slot(left, slot));

@@ -5,11 +5,11 @@ use audits::{lengths, listings, sound};
 use images::memory::{Field, Head, Image};
 use images::packing;
 use images::packing::refused;
-use samples::calls::{CHECK, LAYOUT, LISTING, SET_CHARGE, VIEW, VIEW_CHECK};
+use samples::calls::Call;
 
 // Makes a call on a label or a slot, with a charge. The bytes of the view's part are left in the list.
-pub fn judge(image: &mut Image, call: usize, label: &[u8], number: usize) -> usize {
-    if call == VIEW {
+pub fn judge(image: &mut Image, call: Call, label: &[u8], number: usize) -> usize {
+    if call == Call::View {
         return view(image, number);
     }
     let why = lengths::lent_refusal(image);
@@ -17,11 +17,11 @@ pub fn judge(image: &mut Image, call: usize, label: &[u8], number: usize) -> usi
         return refused(why);
     }
     match call {
-        LISTING => list(image),
-        LAYOUT => lay_out(image),
-        CHECK => done(soundness_refusal(image)),
-        VIEW_CHECK => done(view_refusal(image, number)),
-        SET_CHARGE => updates::set_charge(image, label, number),
+        Call::Listing => list(image),
+        Call::Layout => lay_out(image),
+        Call::Check => done(soundness_refusal(image)),
+        Call::ViewCheck => done(view_refusal(image, number)),
+        Call::SetCharge => updates::set_charge(image, label, number),
         _ => updates::answer(image, call, label, number),
     }
 }

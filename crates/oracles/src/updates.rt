@@ -4,12 +4,12 @@ use audits::{charges, lengths, sound};
 use images::memory::{Field, Head, Image};
 use images::packing;
 use images::packing::refused;
-use samples::calls::{DELETE, INSERT, SEARCH, SET_CHARGE};
+use samples::calls::Call;
 use std::num::wrapping_add_usize;
 
 // The answer of a search or an update on memory of the right lengths.
-pub fn answer(image: &Image, call: usize, label: &[u8], charge: usize) -> usize {
-    if call != SEARCH {
+pub fn answer(image: &Image, call: Call, label: &[u8], charge: usize) -> usize {
+    if call != Call::Search {
         if given_refusal(image, call, label.len(), charge) == 0 {
             if !sound::is_sound(image) {
                 return refused(6);
@@ -20,28 +20,28 @@ pub fn answer(image: &Image, call: usize, label: &[u8], charge: usize) -> usize 
 }
 
 // The number that refuses a label by its length or, where one is given, a charge; or 0.
-fn given_refusal(image: &Image, call: usize, len: usize, charge: usize) -> usize {
+fn given_refusal(image: &Image, call: Call, len: usize, charge: usize) -> usize {
     let why = lengths::label_refusal(image, len);
     if why > 0 {
         return why;
     }
-    if call == SET_CHARGE {
+    if call == Call::SetCharge {
         return charges::charge_refusal(charge);
     }
     0
 }
 
 // The answer of a search, or of an update on memory that is sound.
-pub fn on_sound(image: &Image, call: usize, label: &[u8], charge: usize) -> usize {
+pub fn on_sound(image: &Image, call: Call, label: &[u8], charge: usize) -> usize {
     let why = given_refusal(image, call, label.len(), charge);
     if why > 0 {
         return refused(why);
     }
     let met = steps::search(image, label);
     match call {
-        INSERT => inserted(image, met),
-        DELETE => at_held(met),
-        SET_CHARGE => at_held(met),
+        Call::Insert => inserted(image, met),
+        Call::Delete => at_held(met),
+        Call::SetCharge => at_held(met),
         _ => met,
     }
 }
@@ -74,7 +74,7 @@ fn at_held(met: usize) -> usize {
 
 // Where a charge is not refused, it is written to the label's slot, and nothing else changes.
 pub fn set_charge(image: &mut Image, label: &[u8], charge: usize) -> usize {
-    let said = answer(image, SET_CHARGE, label, charge);
+    let said = answer(image, Call::SetCharge, label, charge);
     if packing::kind(said) == packing::UPDATED {
         image.put_field(packing::one(said), Field::Charge, charge);
     }

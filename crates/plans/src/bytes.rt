@@ -1,6 +1,6 @@
 // The changes of one byte of a file, and the shapes of which files are changed and cut short.
 use samples::numbers;
-use samples::shapes::{ALIKE, ANY, ENDS, LETTERS, ROSTER, SPELLED};
+use samples::shapes::Shape;
 use std::num::wrapping_add_usize;
 
 // The shapes, and the first labels of each that a file has.
@@ -8,14 +8,14 @@ pub const SHAPES: usize = 6;
 
 pub const LABELS: usize = 6;
 
-pub fn shape(i: usize) -> usize {
+pub fn shape(i: usize) -> Shape {
     match i {
-        0 => ROSTER,
-        1 => ALIKE,
-        2 => ENDS,
-        3 => ANY,
-        4 => SPELLED,
-        _ => LETTERS,
+        0 => Shape::Roster,
+        1 => Shape::Alike,
+        2 => Shape::Ends,
+        3 => Shape::Any,
+        4 => Shape::Spelled,
+        _ => Shape::Letters,
     }
 }
 

@@ -2,6 +2,7 @@
 use crate::charges;
 use images::memory::{Entry, Field, Head, Image};
 use images::sizes::Sizes;
+use samples::shapes::{Label, Shape};
 use samples::{numbers, shapes};
 use std::num::{wrapping_add_usize, wrapping_sub_usize};
 
@@ -50,8 +51,8 @@ fn head_to(word: Head, to: usize) -> Written {
 }
 
 // How many changes of a kind are made on a table of a shape: old labels on bytes 1 to 4 alone, and there nothing else.
-pub fn times(shape: usize, kind: usize) -> usize {
-    if (kind == OLD) != (shape == shapes::FOUR) {
+pub fn times(shape: Shape, kind: usize) -> usize {
+    if (kind == OLD) != (shape == Shape::Four) {
         return 0;
     }
     if kind == OLD {
@@ -60,7 +61,7 @@ pub fn times(shape: usize, kind: usize) -> usize {
     if kind == PATH {
         return 60;
     }
-    if shape == shapes::ROSTER {
+    if shape == Shape::Roster {
         return roster_times(kind);
     }
     match kind {
@@ -352,10 +353,10 @@ pub fn old_byte(byte: usize, seed: u64) -> usize {
     let c = rank_above(b, 14, third);
     match byte {
         0 => 0,
-        1 => shapes::letter(a),
-        2 => shapes::letter(b),
-        3 => shapes::letter(c),
-        4 => shapes::letter(rank_above(c, 15, numbers::next(third))),
+        1 => usize::from(shapes::letter(a)),
+        2 => usize::from(shapes::letter(b)),
+        3 => usize::from(shapes::letter(c)),
+        4 => usize::from(shapes::letter(rank_above(c, 15, numbers::next(third)))),
         _ => byte,
     }
 }
@@ -366,13 +367,11 @@ fn rank_above(rank: usize, last: usize, seed: u64) -> usize {
     wrapping_add_usize(wrapping_add_usize(rank, 1), more)
 }
 
-// Writes a label's bytes 1 to 4 as an old table has them.
-pub fn write_old(label: &mut shapes::Label, seed: u64) {
-    for i in 0..66usize {
-        label[i] = (old_byte(wide(label[i]), seed) % 256) as u8;
+// A label whose bytes 1 to 4 are as an old table has them.
+pub fn old_label(label: &Label, seed: u64) -> Label {
+    let mut old = Label::EMPTY;
+    for &byte in label.as_slice() {
+        old.push((old_byte(usize::from(byte), seed) % 256) as u8);
     }
-}
-
-fn wide(x: u8) -> usize {
-    x as usize
+    old
 }

@@ -1,14 +1,14 @@
 // The calls of the groups that set charges.
 use crate::planned::{ANY_REFUSAL, Planned};
 use crate::{edges, planned};
-use samples::calls::{DELETE, INSERT, SET_CHARGE};
-use samples::shapes::ROSTER;
+use samples::calls::Call;
+use samples::shapes::Shape;
 use samples::{charges, numbers};
 use std::num::{wrapping_add_usize, wrapping_sub_usize};
 
 // A call that is drawn, or in two of five a charge for its label.
 pub fn or_charge(drawn: Planned, seed: u64) -> Planned {
-    let draw = numbers::mixed_seed(seed, SET_CHARGE);
+    let draw = numbers::mixed_seed(seed, Call::SetCharge as usize);
     if numbers::below(draw, 5) > 1 {
         return drawn;
     }
@@ -18,11 +18,11 @@ pub fn or_charge(drawn: Planned, seed: u64) -> Planned {
 
 // A roster is inserted in order, each label is given its charge, all are deleted by halves, and inserted anew.
 pub fn charged(labels: usize, i: usize) -> Planned {
-    let k = numbers::remainder(i, labels);
-    match numbers::quotient(i, labels) {
-        1 => planned::charge(ROSTER, k, charges::own(k), 0),
-        2 => planned::named(DELETE, ROSTER, halved(labels, k), 0),
-        _ => planned::named(INSERT, ROSTER, k, 0),
+    let k = i.checked_rem(labels).unwrap_or(0);
+    match i.checked_div(labels).unwrap_or(0) {
+        1 => planned::charge(Shape::Roster, k, charges::own(k), 0),
+        2 => planned::named(Call::Delete, Shape::Roster, halved(labels, k), 0),
+        _ => planned::named(Call::Insert, Shape::Roster, k, 0),
     }
 }
 
@@ -42,7 +42,7 @@ fn halved(labels: usize, i: usize) -> usize {
 // A roster is inserted but for its first label; then come the charges at the edges.
 pub fn at_edges(labels: usize, i: usize) -> Planned {
     if i < labels {
-        return planned::named(INSERT, ROSTER, wrapping_add_usize(i, 1), 0);
+        return planned::named(Call::Insert, Shape::Roster, wrapping_add_usize(i, 1), 0);
     }
     edges::call(edges::SOUND, i - labels)
 }

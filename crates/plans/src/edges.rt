@@ -3,7 +3,7 @@ use crate::planned;
 use crate::planned::Planned;
 use images::memory::{Entry, Head, Image};
 use samples::charges;
-use samples::shapes::{LONGEST, ROSTER};
+use samples::shapes::Shape;
 use std::num::wrapping_add_usize;
 
 // The memories: sound; with a table of a word less, a store of a byte less, or both; with a head that says one label
@@ -46,14 +46,15 @@ pub fn make(image: &mut Image, state: usize) {
 
 // Call `i` on a memory.
 pub fn call(state: usize, i: usize) -> Planned {
-    let label = i / charges::EDGES;
-    let edge = i % charges::EDGES;
+    let label = i / charges::EDGES.len();
+    let edge = i % charges::EDGES.len();
     let number = refusal(state, label, edge);
+    let charge = charges::EDGES.get(edge).copied().unwrap_or(0);
     match label {
-        HELD => planned::charge(ROSTER, 1, charges::edge(edge), number),
-        ABSENT => planned::charge(ROSTER, 0, charges::edge(edge), number),
-        LONGER => planned::charge(LONGEST, 1, charges::edge(edge), number),
-        _ => planned::charge(LONGEST, 2, charges::edge(edge), number),
+        HELD => planned::charge(Shape::Roster, 1, charge, number),
+        ABSENT => planned::charge(Shape::Roster, 0, charge, number),
+        LONGER => planned::charge(Shape::Longest, 1, charge, number),
+        _ => planned::charge(Shape::Longest, 2, charge, number),
     }
 }
 

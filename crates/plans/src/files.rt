@@ -1,6 +1,6 @@
 // The tables of the hub whose files are at an edge: how they are made, and how many bytes the file of each has.
-use samples::calls::{DELETE, SAVE, SET_CHARGE};
-use samples::shapes::{LONGEST, ROSTER, SHORT, WIDEST};
+use samples::calls::Call;
+use samples::shapes::Shape;
 use std::num::wrapping_add_usize;
 
 // The groups: no label, in a fresh table and in one filled and emptied; one label of one byte, and one of 64, with the
@@ -22,19 +22,19 @@ const FULL: usize = 4;
 // neither, where the call is a save; and the bytes of its file.
 #[derive(Clone, Copy)]
 pub struct Edge {
-    pub shape: usize,
+    pub shape: Shape,
     pub labels: usize,
     pub value: usize,
-    pub then: usize,
+    pub then: Call,
     pub bytes: usize,
 }
 
-pub fn shape(group: usize) -> usize {
+pub fn shape(group: usize) -> Shape {
     match group {
-        SHORT_LABEL => SHORT,
-        LONG_LABEL => LONGEST,
-        EMPTY | COUNTS => ROSTER,
-        _ => WIDEST,
+        SHORT_LABEL => Shape::Short,
+        LONG_LABEL => Shape::Longest,
+        EMPTY | COUNTS => Shape::Roster,
+        _ => Shape::Widest,
     }
 }
 
@@ -53,16 +53,28 @@ pub fn tables(group: usize) -> usize {
 pub fn table(group: usize, i: usize) -> Edge {
     let shape = shape(group);
     match group {
-        EMPTY => made(shape, 512 * (i % 2), 300, DELETE, 1),
-        SHORT_LABEL => made(shape, 1, value(i), SAVE, wrapping_add_usize(3, taken(i))),
-        LONG_LABEL => made(shape, 1, value(i), SAVE, wrapping_add_usize(66, taken(i))),
-        COUNTS => made(shape, 127 + i % 3, 0, SAVE, counted(i)),
-        FULL => made(shape, 512, 65535, SAVE, 34818),
-        _ => made(shape, 102, 65535, SET_CHARGE, 6937),
+        EMPTY => made(shape, 512 * (i % 2), 300, Call::Delete, 1),
+        SHORT_LABEL => made(
+            shape,
+            1,
+            value(i),
+            Call::Save,
+            wrapping_add_usize(3, taken(i)),
+        ),
+        LONG_LABEL => made(
+            shape,
+            1,
+            value(i),
+            Call::Save,
+            wrapping_add_usize(66, taken(i)),
+        ),
+        COUNTS => made(shape, 127 + i % 3, 0, Call::Save, counted(i)),
+        FULL => made(shape, 512, 65535, Call::Save, 34818),
+        _ => made(shape, 102, 65535, Call::SetCharge, 6937),
     }
 }
 
-fn made(shape: usize, labels: usize, value: usize, then: usize, bytes: usize) -> Edge {
+fn made(shape: Shape, labels: usize, value: usize, then: Call, bytes: usize) -> Edge {
     Edge {
         shape: shape,
         labels: labels,

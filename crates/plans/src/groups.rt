@@ -1,9 +1,9 @@
 // The groups of calls on sound tables: which calls they make.
 use crate::planned::{Planned, judged, named};
 use crate::{charging, edges};
-use samples::calls::{DELETE, INSERT, SEARCH};
+use samples::calls::Call;
 use samples::numbers;
-use samples::shapes::{ALIKE, ANY, ENDS, FOUR, LETTERS, LONGEST, ROSTER, SHORT, SPELLED};
+use samples::shapes::Shape;
 use std::num::{wrapping_add_usize, wrapping_sub_usize};
 
 pub const GROUPS: usize = 25;
@@ -37,28 +37,28 @@ pub const CHARGE_EDGES: usize = 9;
 #[derive(Clone, Copy)]
 pub struct Plan {
     pub way: usize,
-    pub shape: usize,
+    pub shape: Shape,
     pub labels: usize,
 }
 
 // A group's plan on an index of so many slots.
 pub fn plan_of(group: usize, slots: usize) -> Plan {
     match group {
-        0 => group_of(CASE, ROSTER, slots),
-        1 => group_of(IN_ORDER, ROSTER, surplus(slots)),
-        2 => group_of(REVERSED, ROSTER, surplus(slots)),
-        3 => group_of(STEPPED, ALIKE, surplus(slots)),
-        4 => group_of(STEPPED, ENDS, surplus(slots)),
-        5 => group_of(STEPPED, ANY, surplus(slots)),
-        6 => group_of(DRAWN, ROSTER, surplus(slots)),
-        7 => group_of(DRAWN, ALIKE, surplus(slots)),
-        8 => group_of(DRAWN, ENDS, surplus(slots)),
-        9 => group_of(DRAWN, SHORT, surplus(slots)),
-        10 => group_of(DRAWN, ANY, surplus(slots)),
-        11 => group_of(STEPPED, SPELLED, surplus(slots)),
-        12 => group_of(DRAWN, SPELLED, many(slots)),
-        13 => group_of(DRAWN, LETTERS, many(slots)),
-        14 => group_of(RESPELLED, SPELLED, slots),
+        0 => group_of(CASE, Shape::Roster, slots),
+        1 => group_of(IN_ORDER, Shape::Roster, surplus(slots)),
+        2 => group_of(REVERSED, Shape::Roster, surplus(slots)),
+        3 => group_of(STEPPED, Shape::Alike, surplus(slots)),
+        4 => group_of(STEPPED, Shape::Ends, surplus(slots)),
+        5 => group_of(STEPPED, Shape::Any, surplus(slots)),
+        6 => group_of(DRAWN, Shape::Roster, surplus(slots)),
+        7 => group_of(DRAWN, Shape::Alike, surplus(slots)),
+        8 => group_of(DRAWN, Shape::Ends, surplus(slots)),
+        9 => group_of(DRAWN, Shape::Short, surplus(slots)),
+        10 => group_of(DRAWN, Shape::Any, surplus(slots)),
+        11 => group_of(STEPPED, Shape::Spelled, surplus(slots)),
+        12 => group_of(DRAWN, Shape::Spelled, many(slots)),
+        13 => group_of(DRAWN, Shape::Letters, many(slots)),
+        14 => group_of(RESPELLED, Shape::Spelled, slots),
         _ => later_plan(group, slots),
     }
 }
@@ -66,16 +66,16 @@ pub fn plan_of(group: usize, slots: usize) -> Plan {
 // The plan of a group with a number above 14.
 fn later_plan(group: usize, slots: usize) -> Plan {
     match group {
-        15 => group_of(CHARGES_DRAWN, ALIKE, surplus(slots)),
-        16 => group_of(CHARGES_DRAWN, ANY, surplus(slots)),
-        17 => group_of(CHARGES_DRAWN, SPELLED, many(slots)),
-        18 => group_of(CHARGED, ROSTER, wrapping_sub_usize(slots, 1)),
-        19 => group_of(CHARGE_EDGES, ROSTER, 4),
-        20 => group_of(PREPARED, ALIKE, fewer(45, slots)),
-        21 => group_of(PREPARED, ENDS, fewer(70, slots)),
-        22 => group_of(PREPARED, LETTERS, fewer(70, slots)),
-        23 => group_of(PREPARED, FOUR, fewer(70, slots)),
-        _ => group_of(PREPARED, ROSTER, wrapping_add_usize(slots, 48)),
+        15 => group_of(CHARGES_DRAWN, Shape::Alike, surplus(slots)),
+        16 => group_of(CHARGES_DRAWN, Shape::Any, surplus(slots)),
+        17 => group_of(CHARGES_DRAWN, Shape::Spelled, many(slots)),
+        18 => group_of(CHARGED, Shape::Roster, wrapping_sub_usize(slots, 1)),
+        19 => group_of(CHARGE_EDGES, Shape::Roster, 4),
+        20 => group_of(PREPARED, Shape::Alike, fewer(45, slots)),
+        21 => group_of(PREPARED, Shape::Ends, fewer(70, slots)),
+        22 => group_of(PREPARED, Shape::Letters, fewer(70, slots)),
+        23 => group_of(PREPARED, Shape::Four, fewer(70, slots)),
+        _ => group_of(PREPARED, Shape::Roster, wrapping_add_usize(slots, 48)),
     }
 }
 
@@ -84,7 +84,7 @@ pub fn is_hubs(plan: Plan) -> bool {
     plan.way >= CHARGES_DRAWN
 }
 
-fn group_of(way: usize, shape: usize, labels: usize) -> Plan {
+fn group_of(way: usize, shape: Shape, labels: usize) -> Plan {
     Plan {
         way: way,
         shape: shape,
@@ -99,12 +99,12 @@ fn surplus(slots: usize) -> usize {
 
 // Four times as many labels, where several are one in different spellings; 800 at most.
 fn many(slots: usize) -> usize {
-    numbers::least(800, slots % 513 * 25 / 4)
+    (slots % 513 * 25 / 4).min(800)
 }
 
 // So many labels, or else two fewer than there are slots.
 fn fewer(labels: usize, slots: usize) -> usize {
-    numbers::least(labels, wrapping_sub_usize(slots, 2))
+    labels.min(slots.wrapping_sub(2))
 }
 
 // How many calls a group makes.
@@ -113,10 +113,10 @@ pub fn calls(plan: Plan) -> usize {
     let way = plan.way;
     match way {
         CASE => 2 * labels + 17,
-        DRAWN => numbers::least(8000, 40 * labels),
+        DRAWN => (40 * labels).min(8000),
         PREPARED => labels + 12,
         RESPELLED => 2 * labels + 8,
-        CHARGES_DRAWN => numbers::least(4000, 40 * labels),
+        CHARGES_DRAWN => (40 * labels).min(4000),
         CHARGED => 4 * labels,
         CHARGE_EDGES => labels + edges::CALLS,
         _ => 3 * labels + 4,
@@ -139,22 +139,22 @@ pub fn call(plan: Plan, i: usize, seed: u64) -> Planned {
 }
 
 fn swept(plan: Plan, i: usize) -> Planned {
-    let k = numbers::remainder(i, plan.labels);
+    let k = i.checked_rem(plan.labels).unwrap_or(0);
     let label = swept_label(plan, k);
-    match numbers::quotient(i, plan.labels) {
-        0 => judged(INSERT, plan.shape, label),
-        1 => judged(SEARCH, plan.shape, label),
-        2 => judged(DELETE, plan.shape, label),
+    match i.checked_div(plan.labels).unwrap_or(0) {
+        0 => judged(Call::Insert, plan.shape, label),
+        1 => judged(Call::Search, plan.shape, label),
+        2 => judged(Call::Delete, plan.shape, label),
         _ => emptied(plan.shape, k),
     }
 }
 
 // On a table filled and emptied: a search; then one label is inserted alone, and it and another are searched.
-fn emptied(shape: usize, i: usize) -> Planned {
+fn emptied(shape: Shape, i: usize) -> Planned {
     match i {
-        1 => judged(INSERT, shape, 0),
-        3 => judged(SEARCH, shape, 1),
-        _ => judged(SEARCH, shape, 0),
+        1 => judged(Call::Insert, shape, 0),
+        3 => judged(Call::Search, shape, 1),
+        _ => judged(Call::Search, shape, 0),
     }
 }
 
@@ -164,7 +164,7 @@ fn swept_label(plan: Plan, i: usize) -> usize {
     let way = plan.way;
     match way {
         IN_ORDER => i,
-        REVERSED => numbers::remainder(wrapping_sub_usize(labels, i), labels),
+        REVERSED => labels.wrapping_sub(i).checked_rem(labels).unwrap_or(0),
         _ => stepped(333, i, labels),
     }
 }
@@ -173,7 +173,7 @@ fn swept_label(plan: Plan, i: usize) -> usize {
 fn stepped(step: usize, times: usize, labels: usize) -> usize {
     let mut k = 0usize;
     for i in 0..times {
-        k = numbers::remainder(wrapping_add_usize(k, step), labels);
+        k = k.wrapping_add(step).checked_rem(labels).unwrap_or(0);
     }
     k
 }
@@ -182,27 +182,27 @@ fn stepped(step: usize, times: usize, labels: usize) -> usize {
 fn drawn(plan: Plan, i: usize, seed: u64) -> Planned {
     let labels = plan.labels;
     let label = numbers::below(numbers::next(seed), labels);
-    let phase = numbers::quotient(i, wrapping_add_usize(labels, labels / 8));
+    let phase = i.checked_div(labels.wrapping_add(labels / 8)).unwrap_or(0);
     judged(drawn_call(seed, phase % 2), plan.shape, label)
 }
 
-fn drawn_call(seed: u64, phase: usize) -> usize {
+fn drawn_call(seed: u64, phase: usize) -> Call {
     let n = numbers::below(seed, 10);
     if n < 2 {
-        return SEARCH;
+        return Call::Search;
     }
     if (n < 8) == (phase == 0) {
-        return INSERT;
+        return Call::Insert;
     }
-    DELETE
+    Call::Delete
 }
 
 fn prepared(plan: Plan, i: usize) -> Planned {
     let inserts = plan.labels;
     if i < inserts {
-        return judged(INSERT, plan.shape, i);
+        return judged(Call::Insert, plan.shape, i);
     }
-    judged(DELETE, plan.shape, stepped(5, i - inserts, inserts))
+    judged(Call::Delete, plan.shape, stepped(5, i - inserts, inserts))
 }
 
 // The lengths of a label: the longest, one more and none. Then a roster until the table is full, two labels more, each
@@ -233,16 +233,16 @@ fn full(slots: usize, i: usize) -> Planned {
 }
 
 fn member(label: usize, refusal: usize) -> Planned {
-    named(INSERT, ROSTER, label, refusal)
+    named(Call::Insert, Shape::Roster, label, refusal)
 }
 
 // The longest label is inserted or refused by a number, one longer and none are refused by 4 and 3, and the first is
 // deleted.
 fn lengths_call(i: usize, refusal: usize) -> Planned {
     let call = match i {
-        0..=2 => INSERT,
-        3..=4 => SEARCH,
-        _ => DELETE,
+        0..=2 => Call::Insert,
+        3..=4 => Call::Search,
+        _ => Call::Delete,
     };
     longest(call, longest_label(i), refusal)
 }
@@ -258,23 +258,23 @@ fn longest_label(i: usize) -> usize {
     }
 }
 
-fn longest(call: usize, label: usize, refusal: usize) -> Planned {
+fn longest(call: Call, label: usize, refusal: usize) -> Planned {
     let number = match label {
         0 => refusal,
         1 => 4,
         _ => 3,
     };
-    named(call, LONGEST, label, number)
+    named(call, Shape::Longest, label, number)
 }
 
 // Names in small letters until the table is full, each again in another spelling, and then some calls on one of them.
 fn respelled(slots: usize, i: usize) -> Planned {
     if i < slots {
-        return name(INSERT, i, 0, 0);
+        return name(Call::Insert, i, 0, 0);
     }
     let again = i - slots;
     if again < slots {
-        return name(INSERT, again, again % 3 + 1, 7);
+        return name(Call::Insert, again, again % 3 + 1, 7);
     }
     renewed(slots, again - slots)
 }
@@ -284,22 +284,22 @@ fn respelled(slots: usize, i: usize) -> Planned {
 fn renewed(slots: usize, i: usize) -> Planned {
     let held = slots / 2;
     match i {
-        0 => name(INSERT, slots, 1, 9),
-        1 => name(SEARCH, held, 2, 0),
-        2 => name(DELETE, held, 1, 0),
-        3 => name(DELETE, held, 0, 8),
-        4 => name(INSERT, held, 3, 0),
-        5 => name(INSERT, held, 0, 7),
-        6 => name(SEARCH, held, 1, 0),
-        _ => name(INSERT, slots, 0, 9),
+        0 => name(Call::Insert, slots, 1, 9),
+        1 => name(Call::Search, held, 2, 0),
+        2 => name(Call::Delete, held, 1, 0),
+        3 => name(Call::Delete, held, 0, 8),
+        4 => name(Call::Insert, held, 3, 0),
+        5 => name(Call::Insert, held, 0, 7),
+        6 => name(Call::Search, held, 1, 0),
+        _ => name(Call::Insert, slots, 0, 9),
     }
 }
 
 // A call on a name in a spelling.
-fn name(call: usize, number: usize, spelling: usize, refusal: usize) -> Planned {
+fn name(call: Call, number: usize, spelling: usize, refusal: usize) -> Planned {
     named(
         call,
-        SPELLED,
+        Shape::Spelled,
         wrapping_add_usize(4 * (number % 513), spelling),
         refusal,
     )

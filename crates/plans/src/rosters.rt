@@ -2,8 +2,7 @@
 use crate::written::NO_FILE;
 use images::outputs;
 use images::outputs::Output;
-use samples::shapes;
-use samples::shapes::{Label, ROSTER};
+use samples::shapes::Shape;
 use std::num::wrapping_add_usize;
 
 // A roster's file: the number that stands before its labels, the labels, how many of its last bytes are cut, and the
@@ -75,30 +74,12 @@ fn put_count(file: &mut Output, count: usize) -> usize {
 }
 
 fn put_strap(file: &mut Output, at: usize, k: usize) -> usize {
-    let mut label = [0u8; 66];
-    let n = shapes::write(&mut label, 64, ROSTER, k);
-    let start = put_byte(file, at, n);
-    let end = put_bytes(file, start, &label, n);
+    let label = Shape::Roster.label(64, k);
+    let mut end = put_byte(file, at, label.as_slice().len());
+    for &byte in label.as_slice() {
+        end = put_byte(file, end, usize::from(byte));
+    }
     put_byte(file, end, 0)
-}
-
-fn put_bytes(file: &mut Output, at: usize, label: &Label, n: usize) -> usize {
-    let mut after = at;
-    for j in 0..n {
-        after = put_byte(file, after, byte_of(label, j));
-    }
-    after
-}
-
-fn byte_of(label: &Label, j: usize) -> usize {
-    if j < 66 {
-        return wide(label[j]);
-    }
-    0
-}
-
-fn wide(x: u8) -> usize {
-    x as usize
 }
 
 fn put_byte(file: &mut Output, at: usize, byte: usize) -> usize {

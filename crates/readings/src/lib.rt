@@ -10,7 +10,7 @@ use images::memory::Image;
 use images::outputs::Output;
 use images::packing;
 use plainmap::lists::Lists;
-use samples::shapes;
+use samples::shapes::Label;
 
 // The kind of the answer to a roster that is taken.
 pub const TAKEN: usize = 9;
@@ -41,15 +41,15 @@ pub fn judge(image: &Image, text: &Output, n: usize, map: &mut Lists) -> usize {
 
 // Each record has a byte at least, so they are no more than the text's bytes.
 fn hold_all(text: &Output, n: usize, map: &mut Lists, is_sound: bool) -> usize {
-    let mut label = [0u8; 66];
     let mut at = 0usize;
     for k in 0..n {
         if at >= n {
             return answer(k, 0);
         }
+        let mut label = Label::EMPTY;
         let read = machine::read(text, n, at, &mut label);
         let value = values::value(text, read);
-        let refusal = hold(map, shapes::opening(&label, read.label), value, is_sound);
+        let refusal = hold(map, label.as_slice(), value, is_sound);
         if refusal > 0 {
             return answer(k + 1, refusal);
         }

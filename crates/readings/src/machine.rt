@@ -64,8 +64,7 @@ pub fn byte_at(text: &Output, i: usize) -> usize {
     0
 }
 
-// Reads the record that begins at a place of a text of so many bytes, and puts its label, or the first 66 bytes of
-// that, into an array.
+// Reads the record that begins at a place of a text of so many bytes, and puts its label after what stands in one.
 pub fn read(text: &Output, n: usize, at: usize, label: &mut Label) -> Reading {
     let mut reading = Reading {
         state: START,
@@ -100,7 +99,7 @@ fn step(label: &mut Label, reading: Reading, byte: usize) -> Reading {
         next.last = reading.end;
     }
     if of_label {
-        put(label, reading.label, byte);
+        label.push((byte % 256) as u8);
     }
     next
 }
@@ -110,10 +109,4 @@ fn more_if(count: usize, holds: bool) -> usize {
         return wrapping_add_usize(count, 1);
     }
     count
-}
-
-fn put(label: &mut Label, at: usize, byte: usize) {
-    if at < 66 {
-        label[at] = (byte % 256) as u8;
-    }
 }

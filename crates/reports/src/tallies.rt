@@ -1,7 +1,8 @@
 // What a group counts, and the lines that are printed.
 use crate::texts::Line;
 use crate::{Round, faults, texts};
-use samples::calls::{INSERT, SET_CHARGE};
+use samples::calls::Call;
+use samples::shapes::Shape;
 use std::io;
 use std::io::Stdout;
 use std::num::wrapping_add_usize;
@@ -48,7 +49,7 @@ pub const NOT_ASCENDING: usize = 16;
 
 pub const BYTES_AFTER: usize = 17;
 
-// No count, and no shape.
+// No count.
 const NONE: usize = 18;
 
 pub fn none() -> Tally {
@@ -90,7 +91,7 @@ fn at_least(tally: Tally, k: usize, x: usize) -> Tally {
 }
 
 // Counts a call on a sound table that left `held` labels.
-pub fn count(tally: Tally, call: usize, round: Round, held: usize) -> Tally {
+pub fn count(tally: Tally, call: Call, round: Round, held: usize) -> Tally {
     let called = one_more(tally, CALLS);
     let ended = one_more(called, end_of(call, round.kind));
     let most = at_least(ended, MOST, held);
@@ -111,7 +112,7 @@ fn file_refusal(number: usize) -> usize {
 }
 
 // Which count a call's end goes to, by the kind of its answer.
-fn end_of(call: usize, kind: usize) -> usize {
+fn end_of(call: Call, kind: usize) -> usize {
     match kind {
         0 => REFUSED,
         1 => FOUND,
@@ -122,10 +123,10 @@ fn end_of(call: usize, kind: usize) -> usize {
     }
 }
 
-fn updates_end(call: usize) -> usize {
+fn updates_end(call: Call) -> usize {
     match call {
-        INSERT => INSERTED,
-        SET_CHARGE => CHARGED,
+        Call::Insert => INSERTED,
+        Call::SetCharge => CHARGED,
         _ => DELETED,
     }
 }
@@ -134,7 +135,7 @@ fn updates_end(call: usize) -> usize {
 pub fn print_sequence(
     out: Stdout,
     page: bool,
-    shape: usize,
+    shape: Shape,
     way: usize,
     tally: Tally,
 ) -> io::Result<()> {
@@ -149,7 +150,7 @@ pub fn print_sequence(
 }
 
 // Prints the line of the saves in such a group of the hub, which alone has them.
-pub fn print_saves(out: Stdout, shape: usize, way: usize, tally: Tally) -> io::Result<()> {
+pub fn print_saves(out: Stdout, shape: Shape, way: usize, tally: Tally) -> io::Result<()> {
     print_way(
         out,
         false,
@@ -161,7 +162,7 @@ pub fn print_saves(out: Stdout, shape: usize, way: usize, tally: Tally) -> io::R
 }
 
 // Prints the line of the loads of what such a group saved.
-pub fn print_loads(out: Stdout, shape: usize, way: usize, tally: Tally) -> io::Result<()> {
+pub fn print_loads(out: Stdout, shape: Shape, way: usize, tally: Tally) -> io::Result<()> {
     print_way(
         out,
         false,
@@ -175,7 +176,7 @@ pub fn print_loads(out: Stdout, shape: usize, way: usize, tally: Tally) -> io::R
 fn print_way(
     out: Stdout,
     page: bool,
-    shape: usize,
+    shape: Shape,
     way: usize,
     counts: &[u8],
     tally: Tally,
@@ -183,7 +184,7 @@ fn print_way(
     print(
         out,
         page,
-        shape,
+        Some(shape),
         b"case 11|in order|reversed|stepped|drawn|prepared|respelled|charges drawn|charged|charge edges",
         way,
         counts,
@@ -195,14 +196,14 @@ fn print_way(
 pub fn print_damage(
     out: Stdout,
     page: bool,
-    shape: usize,
+    shape: Shape,
     kind: usize,
     tally: Tally,
 ) -> io::Result<()> {
     print(
         out,
         page,
-        shape,
+        Some(shape),
         b"one word|two words|three words|one byte|two rows|freed slots|cycles|paths|old|fields|one charge|charges",
         kind,
         b": changes 8, still sound 9, calls 0",
@@ -214,14 +215,14 @@ pub fn print_damage(
 pub fn print_lent(
     out: Stdout,
     page: bool,
-    shape: usize,
+    shape: Shape,
     group: usize,
     tally: Tally,
 ) -> io::Result<()> {
     print(
         out,
         page,
-        shape,
+        Some(shape),
         b"other lengths|charges refused",
         group,
         b": changes 8, calls 0",
@@ -233,14 +234,14 @@ pub fn print_lent(
 pub fn print_refused_saves(
     out: Stdout,
     page: bool,
-    shape: usize,
+    shape: Shape,
     group: usize,
     tally: Tally,
 ) -> io::Result<()> {
     print(
         out,
         page,
-        shape,
+        Some(shape),
         b"damaged|other lengths",
         group,
         b", saves: changes 8, calls 0, saved C, refused 5, longest file D",
@@ -249,11 +250,11 @@ pub fn print_refused_saves(
 }
 
 // Prints the line of the saves of tables at an edge.
-pub fn print_edge_saves(out: Stdout, shape: usize, group: usize, tally: Tally) -> io::Result<()> {
+pub fn print_edge_saves(out: Stdout, shape: Shape, group: usize, tally: Tally) -> io::Result<()> {
     print(
         out,
         false,
-        shape,
+        Some(shape),
         b"empty|values|values|counts|full|charged",
         group,
         b", saves: calls 0, inserted 3, deleted 4, charged B, saved C, refused 5, longest file D",
@@ -262,11 +263,11 @@ pub fn print_edge_saves(out: Stdout, shape: usize, group: usize, tally: Tally) -
 }
 
 // Prints the line of the loads of files at an edge.
-pub fn print_edge_loads(out: Stdout, shape: usize, group: usize, tally: Tally) -> io::Result<()> {
+pub fn print_edge_loads(out: Stdout, shape: Shape, group: usize, tally: Tally) -> io::Result<()> {
     print(
         out,
         false,
-        shape,
+        Some(shape),
         b"empty|values|values|counts|full|charged",
         group,
         b", loads: calls 0, saved C, longest file D, loaded E, broken F, not ascending G, bytes after H, most held 6",
@@ -279,14 +280,14 @@ pub fn print_edge_loads(out: Stdout, shape: usize, group: usize, tally: Tally) -
 pub fn print_file_loads(
     out: Stdout,
     page: bool,
-    shape: usize,
+    shape: Shape,
     group: usize,
     tally: Tally,
 ) -> io::Result<()> {
     print(
         out,
         page,
-        shape,
+        Some(shape),
         b"cut short|one byte|other lengths",
         group,
         b", loads: changes 8, calls 0, loaded E, refused 5, broken F, not ascending G, bytes after H",
@@ -299,7 +300,7 @@ pub fn print_written_loads(out: Stdout, group: usize, tally: Tally) -> io::Resul
     print(
         out,
         false,
-        NONE,
+        None,
         b"taken|counts|lengths|labels|values|long numbers|order|order last|order first|ends|rosters",
         group,
         b" written out, loads: calls 0, loaded E, broken F, not ascending G, bytes after H, most held 6",
@@ -312,7 +313,7 @@ pub fn print_written_loads(out: Stdout, group: usize, tally: Tally) -> io::Resul
 fn print(
     out: Stdout,
     page: bool,
-    shape: usize,
+    shape: Option<Shape>,
     names: &[u8],
     name: usize,
     counts: &[u8],
@@ -327,17 +328,16 @@ fn print(
     texts::print(out, &mut line, d)
 }
 
-fn put_shape(line: &mut Line, at: usize, shape: usize) -> usize {
-    texts::put_name(
-        line,
-        at,
-        b"roster, |alike, |bytes 0 and 255, |short, |any bytes, |longest, |spelled, |letters, |bytes 1 to 4, |widest, ",
-        shape,
-    )
+fn put_shape(line: &mut Line, at: usize, shape: Option<Shape>) -> usize {
+    let Some(shape) = shape else {
+        return at;
+    };
+    let end = texts::put_name(line, at, shape.name().as_bytes(), 0);
+    texts::put_name(line, end, b", ", 0)
 }
 
 // Prints a call that did not agree: its name, its label in hexadecimal, and what differs.
-pub fn print_mismatch(out: Stdout, call: usize, label: &[u8], fault: usize) -> io::Result<()> {
+pub fn print_mismatch(out: Stdout, call: Call, label: &[u8], fault: usize) -> io::Result<()> {
     let mut line = [0u8; 400];
     let a = put_call(&mut line, call);
     let b = texts::put_hex(&mut line, a, label);
@@ -345,14 +345,10 @@ pub fn print_mismatch(out: Stdout, call: usize, label: &[u8], fault: usize) -> i
     texts::print(out, &mut line, c)
 }
 
-fn put_call(line: &mut Line, call: usize) -> usize {
+fn put_call(line: &mut Line, call: Call) -> usize {
     let at = texts::put_name(line, 0, b"mismatch: ", 0);
-    texts::put_name(
-        line,
-        at,
-        b"search |check |listing |view_check |view |insert |delete |layout |set_charge |save |load ",
-        call,
-    )
+    let end = texts::put_name(line, at, call.name().as_bytes(), 0);
+    texts::put_name(line, end, b" ", 0)
 }
 
 fn put_fault(line: &mut Line, at: usize, fault: usize) -> usize {

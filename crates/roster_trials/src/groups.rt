@@ -10,7 +10,6 @@ use samples::numbers;
 use sheets::{Sheet, drawn, names, written};
 use std::io;
 use std::io::Stdout;
-use std::num::wrapping_add_usize;
 
 // The most texts of a group, and the most bytes of a small one.
 const TEXTS: usize = 64;
@@ -42,8 +41,8 @@ fn take_written(
 ) -> io::Result<Tally> {
     let mut tally = tallies::none();
     for k in 0..TEXTS * (bytes % 257) {
-        let which = wrapping_add_usize(numbers::quotient(k, bytes), 1);
-        let sheet = written::write(text, group, which, numbers::remainder(k, bytes));
+        let which = k.checked_div(bytes).unwrap_or(0).wrapping_add(1);
+        let sheet = written::write(text, group, which, k.checked_rem(bytes).unwrap_or(0));
         if sheet.bytes != sheets::NO_TEXT {
             let next = takings::tried(out, image, map, text, sheet, tally)?;
             tally = next;
@@ -82,7 +81,7 @@ fn take_small(
     let n = written::write(&mut text, written::SMALL, i, 0).bytes;
     let mut after = tally;
     for k in 0..SMALL * WAYS {
-        if (n < SMALL) & (numbers::quotient(k, ways) < n) {
+        if n < SMALL && k.checked_div(ways).unwrap_or(0) < n {
             let counted = take_altered(out, image, map, &text, n, ways, k, after)?;
             after = counted;
         }

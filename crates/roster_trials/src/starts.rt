@@ -3,13 +3,13 @@ use crate::takings;
 use images::memory::Image;
 use images::outputs;
 use plainmap::lists::Lists;
-use samples::calls::{DELETE, INSERT, LAYOUT};
+use samples::calls::Call;
 use sheets::names::Step;
 use sheets::{names, written};
 
 // Empties an index and a map.
 pub fn empty(image: &mut Image, map: &mut Lists) {
-    rounds::calls::make(image, LAYOUT, b"", 0);
+    rounds::calls::make(image, Call::Layout, b"", 0);
     plainmap::clear(map, 512, 64);
 }
 
@@ -35,12 +35,12 @@ fn hold(image: &mut Image, map: &mut Lists, step: Step) {
     let mut text = outputs::fresh();
     let sheet = names::write(&mut text, step);
     readings::judge(image, &text, sheet.bytes, map);
-    takings::each(image, map, &text, sheet.bytes, step.names, INSERT);
+    takings::each(image, map, &text, sheet.bytes, step.names, Call::Insert);
 }
 
 // Deletes the names of a step, one by one; whether none is refused.
 pub fn free(image: &mut Image, map: &mut Lists, step: Step) -> bool {
     let mut text = outputs::fresh();
     let sheet = names::write(&mut text, step);
-    takings::each(image, map, &text, sheet.bytes, step.names, DELETE)
+    takings::each(image, map, &text, sheet.bytes, step.names, Call::Delete)
 }

@@ -8,8 +8,8 @@ use plainmap::lists::Lists;
 use readings::{machine, values};
 use reports::faults;
 use rounds::states;
-use samples::calls::{DELETE, INSERT};
-use samples::shapes;
+use samples::calls::Call;
+use samples::shapes::Label;
 use sheets::Sheet;
 use std::io;
 use std::io::Stdout;
@@ -85,7 +85,7 @@ fn left_fault(
     let mut due = *found;
     let mut other = *map;
     let records = entered(said);
-    if !each(&mut due, &mut other, text, n, records, INSERT) {
+    if !each(&mut due, &mut other, text, n, records, Call::Insert) {
         return faults::CHECK;
     }
     if due != *left {
@@ -105,24 +105,24 @@ pub fn each(
     text: &Output,
     n: usize,
     records: usize,
-    call: usize,
+    call: Call,
 ) -> bool {
-    let mut label = [0u8; 66];
     let mut at = 0usize;
     let mut done = true;
     for k in 0..records {
+        let mut label = Label::EMPTY;
         let read = machine::read(text, n, at, &mut label);
-        let name = shapes::opening(&label, read.label);
-        done = updated(image, map, call, name, values::value(text, read)) & done;
+        let value = values::value(text, read);
+        done = updated(image, map, call, label.as_slice(), value) & done;
         at = read.end;
     }
     done
 }
 
-fn updated(image: &mut Image, map: &mut Lists, call: usize, label: &[u8], value: usize) -> bool {
-    if call == DELETE {
-        let round = rounds::made(image, map, DELETE, label, 0);
+fn updated(image: &mut Image, map: &mut Lists, call: Call, label: &[u8], value: usize) -> bool {
+    if call == Call::Delete {
+        let round = rounds::made(image, map, Call::Delete, label, 0);
         return (round.fault == 0) & (round.kind == packing::UPDATED);
     }
-    packing::kind(rounds::calls::make(image, INSERT, label, value)) == packing::UPDATED
+    packing::kind(rounds::calls::make(image, Call::Insert, label, value)) == packing::UPDATED
 }

@@ -2,7 +2,6 @@
 use images::outputs::Output;
 use images::packing;
 use reports::texts;
-use samples::numbers;
 use std::io;
 use std::io::Stdout;
 use std::num::wrapping_add_usize;
@@ -117,7 +116,7 @@ pub fn print_mismatch(
         b", due 0 at 1, said 2 at 3, text ",
         answers(due, said),
     );
-    let c = texts::put_hex(&mut line, b, opening(text, numbers::least(n, 120)));
+    let c = texts::put_hex(&mut line, b, opening(text, n.min(120)));
     texts::print(out, &mut line, c)
 }
 

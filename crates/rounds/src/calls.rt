@@ -2,18 +2,18 @@
 use crate::{hub, page};
 use images::memory::Image;
 use images::packing;
-use samples::calls::{LISTING, VIEW};
+use samples::calls::Call;
 
 // Makes a call on a label, with a value, a charge or a slot, on an image's memory; the answer in one number.
-pub fn make(image: &mut Image, call: usize, label: &[u8], number: usize) -> usize {
+pub fn make(image: &mut Image, call: Call, label: &[u8], number: usize) -> usize {
     match call {
-        LISTING => list(image),
-        VIEW => put_view(image, number),
+        Call::Listing => list(image),
+        Call::View => put_view(image, number),
         _ => on_memory(image, call, label, number),
     }
 }
 
-fn on_memory(image: &mut Image, call: usize, label: &[u8], number: usize) -> usize {
+fn on_memory(image: &mut Image, call: Call, label: &[u8], number: usize) -> usize {
     let of_page = image.is_page();
     match image.table_and_store_mut() {
         Some((table, store)) if of_page => page::on(table, store, call, label, number),

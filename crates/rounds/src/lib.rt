@@ -13,10 +13,11 @@ use images::memory::Image;
 use images::packing;
 use plainmap::lists::Lists;
 use reports::Round;
+use samples::calls::Call;
 
 // Makes a search or an update on a sound table and the map, with a value or a charge, and compares the answer and what
 // is left.
-pub fn made(image: &mut Image, map: &mut Lists, call: usize, label: &[u8], number: usize) -> Round {
+pub fn made(image: &mut Image, map: &mut Lists, call: Call, label: &[u8], number: usize) -> Round {
     let found = *image;
     let shared = plainmap::most_shared(map, label);
     let said = calls::make(image, call, label, number);
@@ -37,7 +38,7 @@ pub fn made(image: &mut Image, map: &mut Lists, call: usize, label: &[u8], numbe
 // Makes any call on any memory, which stays, and compares the answer and what is left with the second writing's; where
 // the memory is sound, a search's and a charge call's answer also with the map's, and an update's counts with the bytes
 // shared. Whether its search reached the bound is not told.
-pub fn tried(image: &Image, call: usize, label: &[u8], number: usize) -> Round {
+pub fn tried(image: &Image, call: Call, label: &[u8], number: usize) -> Round {
     let mut left = *image;
     let said = calls::make(&mut left, call, label, number);
     Round {

@@ -8,8 +8,7 @@ use images::packing;
 use plainmap::lists::Lists;
 use plainmap::{BYTES, lists};
 use reports::{Round, faults};
-use samples::calls::{INSERT, LAYOUT};
-use samples::shapes;
+use samples::calls::Call;
 use samples::shapes::Label;
 use std::num::wrapping_add_usize;
 
@@ -71,7 +70,7 @@ fn insert_all(image: &mut Image, map: &Lists) -> bool {
 }
 
 fn fill(table: &mut [u16], store: &mut [u8], map: &Lists) -> bool {
-    let said = hub::on(table, store, LAYOUT, b"", 0);
+    let said = hub::on(table, store, Call::Layout, b"", 0);
     insert_each(table, store, map) & (said == packing::plain(packing::DONE, 0))
 }
 
@@ -86,22 +85,22 @@ fn insert_each(table: &mut [u16], store: &mut [u8], map: &Lists) -> bool {
 
 // Inserts the label that the map has in the slot after so many; whether it takes that slot.
 fn insert(table: &mut [u16], store: &mut [u8], map: &Lists, before: usize) -> bool {
-    let mut label = [0u8; 66];
     let slot = wrapping_add_usize(before, 1);
-    read_label(map, slot, &mut label);
-    let len = plainmap::length_of(map, slot);
+    let label = read_label(map, slot);
     let value = plainmap::value_of(map, slot);
-    takes(table, store, shapes::opening(&label, len), value, slot)
+    takes(table, store, label.as_slice(), value, slot)
 }
 
 fn takes(table: &mut [u16], store: &mut [u8], label: &[u8], value: usize, slot: usize) -> bool {
-    let said = hub::on(table, store, INSERT, label, value);
+    let said = hub::on(table, store, Call::Insert, label, value);
     (packing::kind(said) == packing::UPDATED) & (packing::one(said) == slot)
 }
 
-fn read_label(map: &Lists, slot: usize, label: &mut Label) {
-    for j in 0..66usize {
+fn read_label(map: &Lists, slot: usize) -> Label {
+    let mut label = Label::EMPTY;
+    for j in 0..plainmap::length_of(map, slot) {
         let byte = lists::get(map, wrapping_add_usize(BYTES, j), slot);
-        label[j] = (byte % 256) as u8;
+        label.push((byte % 256) as u8);
     }
+    label
 }

@@ -4,10 +4,10 @@ use images::memory::Image;
 use images::packing;
 use plainmap::lists::Lists;
 use reports::faults;
-use samples::calls::{CHECK, LISTING};
+use samples::calls::Call;
 
 // The fault of what a call left; where the second writing has none, that of the index's own check, listing and views.
-pub fn fault(found: &Image, left: &Image, map: &Lists, call: usize, said: usize) -> usize {
+pub fn fault(found: &Image, left: &Image, map: &Lists, call: Call, said: usize) -> usize {
     let fault = comparisons::states::fault(found, left, map, call, said);
     if fault > 0 {
         return fault;
@@ -26,7 +26,7 @@ pub fn map_fault(left: &Image, map: &Lists) -> usize {
 
 fn calls_fault(left: &Image, map: &Lists) -> usize {
     let mut copy = *left;
-    let listed = calls::make(&mut copy, LISTING, b"", 0);
+    let listed = calls::make(&mut copy, Call::Listing, b"", 0);
     if comparisons::states::listing_agrees(&copy, map, listed) {
         return read_fault(left, map);
     }
@@ -57,7 +57,7 @@ fn reading_fault(of_page: bool, table: &[u16], store: &[u8], map: &Lists) -> usi
 
 fn check(of_page: bool, table: &[u16], store: &[u8]) -> usize {
     if of_page {
-        return page::read(table, store, CHECK, b"", 0);
+        return page::read(table, store, Call::Check, b"", 0);
     }
-    hub::read(table, store, CHECK, b"", 0)
+    hub::read(table, store, Call::Check, b"", 0)
 }

@@ -1,23 +1,46 @@
-// The calls by number: first those that leave the memory.
-pub const SEARCH: usize = 0;
+// The calls: first those that leave the memory, then those that both indexes have too; the others the hub's index alone
+// has, and a save leaves the memory.
+#[derive(Clone, Copy, Debug, PartialEq, Eq)]
+pub enum Call {
+    Search,
+    Check,
+    Listing,
+    ViewCheck,
+    View,
+    Insert,
+    Delete,
+    Layout,
+    SetCharge,
+    Save,
+    Load,
+}
 
-pub const CHECK: usize = 1;
+impl Call {
+    // Those that both indexes have.
+    pub const OF_BOTH: [Call; 8] = [
+        Call::Search,
+        Call::Check,
+        Call::Listing,
+        Call::ViewCheck,
+        Call::View,
+        Call::Insert,
+        Call::Delete,
+        Call::Layout,
+    ];
 
-pub const LISTING: usize = 2;
-
-pub const VIEW_CHECK: usize = 3;
-
-pub const VIEW: usize = 4;
-
-pub const INSERT: usize = 5;
-
-pub const DELETE: usize = 6;
-
-pub const LAYOUT: usize = 7;
-
-// The calls that the hub's index alone has; the second leaves the memory too.
-pub const SET_CHARGE: usize = 8;
-
-pub const SAVE: usize = 9;
-
-pub const LOAD: usize = 10;
+    pub fn name(self) -> &'static str {
+        match self {
+            Call::Search => "search",
+            Call::Check => "check",
+            Call::Listing => "listing",
+            Call::ViewCheck => "view_check",
+            Call::View => "view",
+            Call::Insert => "insert",
+            Call::Delete => "delete",
+            Call::Layout => "layout",
+            Call::SetCharge => "set_charge",
+            Call::Save => "save",
+            Call::Load => "load",
+        }
+    }
+}

@@ -1,33 +1,16 @@
 // Charges: the right ones are 0 to 100, and 255 where it is unknown; all others are wrong.
 use crate::numbers;
-use std::num::wrapping_add_usize;
 
-// The charges at the edges by number, the right ones first.
-pub const EDGES: usize = 11;
+// The charges at the edges, the right ones first.
+pub const EDGES: [usize; 11] = [0, 1, 99, 100, 255, 101, 102, 200, 254, 256, 65535];
 
 pub const RIGHT_EDGES: usize = 5;
-
-pub fn edge(i: usize) -> usize {
-    match i {
-        0 => 0,
-        1 => 1,
-        2 => 99,
-        3 => 100,
-        4 => 255,
-        5 => 101,
-        6 => 102,
-        7 => 200,
-        8 => 254,
-        9 => 256,
-        _ => 65535,
-    }
-}
 
 // A right charge, every second one at the edges.
 pub fn right(seed: u64) -> usize {
     let other = numbers::next(seed);
     if numbers::below(seed, 2) == 0 {
-        return edge(numbers::below(other, RIGHT_EDGES));
+        return numbers::one_of(other, &EDGES[..RIGHT_EDGES]);
     }
     numbers::below(other, 101)
 }
@@ -36,9 +19,9 @@ pub fn right(seed: u64) -> usize {
 pub fn wrong(seed: u64) -> usize {
     let other = numbers::next(seed);
     match numbers::below(seed, 3) {
-        0 => edge(wrapping_add_usize(RIGHT_EDGES, numbers::below(other, 6))),
-        1 => wrapping_add_usize(101, numbers::below(other, 154)),
-        _ => wrapping_add_usize(256, numbers::below(other, 65280)),
+        0 => numbers::one_of(other, &EDGES[RIGHT_EDGES..]),
+        1 => numbers::below(other, 154).wrapping_add(101),
+        _ => numbers::below(other, 65280).wrapping_add(256),
     }
 }
 

@@ -10,48 +10,30 @@ pub fn next(seed: u64) -> u64 {
     b ^ (b << 17)
 }
 
-// A number below `n`, from one of the sequence.
+// A number below `n`, from one of the sequence; 0 where `n` is 0.
 pub fn below(seed: u64, n: usize) -> usize {
-    if n == 0 {
-        return 0;
-    }
-    (seed >> 20) as usize % n
+    ((seed >> 20) as usize).checked_rem(n).unwrap_or(0)
 }
 
-pub fn least(x: usize, y: usize) -> usize {
-    if y < x {
-        return y;
-    }
-    x
-}
-
-// Quotient and remainder; by 0, 0.
-pub fn quotient(x: usize, n: usize) -> usize {
-    if n == 0 {
-        return 0;
-    }
-    x / n
-}
-
-pub fn remainder(x: usize, n: usize) -> usize {
-    if n == 0 {
-        return 0;
-    }
-    x % n
+// One of some numbers, by one of the sequence.
+pub fn one_of(seed: u64, numbers: &[usize]) -> usize {
+    numbers
+        .get(below(seed, numbers.len()))
+        .copied()
+        .unwrap_or(0)
 }
 
 // A number that stands for two others.
 pub fn mixed(one: usize, other: usize) -> usize {
-    let seed = std::num::wrapping_add_u64((one as u64) << 20, other as u64);
-    (next(next(next(std::num::wrapping_add_u64(seed, SEED)))) >> 8) as usize
+    (mixed_seed(SEED.wrapping_add((one as u64) << 20), other) >> 8) as usize
 }
 
 // A value for an insert.
-pub fn value(one: usize, other: usize) -> usize {
-    mixed(one, other) % 65536
+pub fn value(one: usize, other: usize) -> u16 {
+    (mixed(one, other) % 65536) as u16
 }
 
 // The number of a sequence that stands for one of another and a count.
 pub fn mixed_seed(seed: u64, count: usize) -> u64 {
-    next(next(next(std::num::wrapping_add_u64(seed, count as u64))))
+    next(next(next(seed.wrapping_add(count as u64))))
 }

@@ -9,7 +9,8 @@ use plans::bytes;
 use plans::planned::ANY_REFUSAL;
 use reports::tallies;
 use reports::tallies::{CHANGES, Tally};
-use samples::{numbers, shapes};
+use samples::numbers;
+use samples::shapes::Shape;
 use std::io;
 use std::io::Stdout;
 
@@ -24,7 +25,7 @@ pub fn run(out: Stdout, image: &Image) -> io::Result<()> {
     Ok(())
 }
 
-fn run_shape(out: Stdout, image: &Image, shape: usize) -> io::Result<()> {
+fn run_shape(out: Stdout, image: &Image, shape: Shape) -> io::Result<()> {
     let mut file = outputs::fresh();
     let n = write(&mut file, shape);
     let cut = cut_short(out, image, &file, n)?;
@@ -34,7 +35,7 @@ fn run_shape(out: Stdout, image: &Image, shape: usize) -> io::Result<()> {
 }
 
 // Writes the file of the first labels of a shape; its length.
-fn write(file: &mut Output, shape: usize) -> usize {
+fn write(file: &mut Output, shape: Shape) -> usize {
     let mut map = [0u16; 35910];
     plainmap::clear(&mut map, 512, 64);
     for k in 0..bytes::LABELS {
@@ -43,11 +44,9 @@ fn write(file: &mut Output, shape: usize) -> usize {
     files::write(file, &map)
 }
 
-fn hold(map: &mut Lists, shape: usize, k: usize) {
-    let mut label = [0u8; 66];
-    let n = shapes::write(&mut label, 64, shape, k);
-    let value = numbers::value(shape, k);
-    plainmap::insert(map, shapes::opening(&label, n), (value % 65536) as u16);
+fn hold(map: &mut Lists, shape: Shape, k: usize) {
+    let value = numbers::value(shape as usize, k);
+    plainmap::insert(map, shape.label(64, k).as_slice(), value);
 }
 
 // Loads the file at each length up to its own, and one more.

@@ -6,9 +6,9 @@ use plans::changes::{KINDS, OLD};
 use plans::planned::ANY_REFUSAL;
 use reports::tallies;
 use reports::tallies::{CALLS, CHANGES, MISMATCHES, SOUND, Tally};
-use samples::calls::SET_CHARGE;
-use samples::shapes::Label;
-use samples::{charges, numbers, shapes};
+use samples::calls::Call;
+use samples::shapes::{Label, Shape};
+use samples::{charges, numbers};
 use std::io;
 use std::io::Stdout;
 use std::num::wrapping_add_usize;
@@ -17,7 +17,7 @@ use std::num::wrapping_add_usize;
 pub const ALL_CALLS: usize = 10;
 
 // Makes the changes of each kind on a table of a shape, and prints a line for each, and for the saves of all.
-pub fn run(out: Stdout, image: &Image, shape: usize) -> io::Result<()> {
+pub fn run(out: Stdout, image: &Image, shape: Shape) -> io::Result<()> {
     let mut saved = tallies::none();
     for kind in 0..KINDS {
         run_kind(out, image, shape, kind, &mut saved)?;
@@ -31,7 +31,7 @@ pub fn run(out: Stdout, image: &Image, shape: usize) -> io::Result<()> {
 fn run_kind(
     out: Stdout,
     image: &Image,
-    shape: usize,
+    shape: Shape,
     kind: usize,
     saved: &mut Tally,
 ) -> io::Result<()> {
@@ -45,7 +45,7 @@ fn run_kind(
 fn group(
     out: Stdout,
     image: &Image,
-    shape: usize,
+    shape: Shape,
     kind: usize,
     saved: &mut Tally,
 ) -> io::Result<Tally> {
@@ -64,7 +64,7 @@ fn group(
 fn change(
     out: Stdout,
     image: &Image,
-    shape: usize,
+    shape: Shape,
     kind: usize,
     seed: u64,
     tally: Tally,
@@ -86,7 +86,7 @@ fn change(
 fn drawn(
     out: Stdout,
     image: &Image,
-    shape: usize,
+    shape: Shape,
     kind: usize,
     seed: u64,
     tally: Tally,
@@ -104,45 +104,42 @@ fn drawn(
 fn every(
     out: Stdout,
     image: &Image,
-    shape: usize,
+    shape: Shape,
     kind: usize,
     seed: u64,
     tally: Tally,
 ) -> io::Result<Tally> {
-    let mut label = [0u8; 66];
     let width = image.sizes.width;
-    let n = write_label(&mut label, width, shape, kind, seed);
+    let label = label_of(width, shape, kind, seed);
     let slots = wrapping_add_usize(image.sizes.slots, 8);
-    let slot = numbers::below(numbers::next(seed), numbers::least(80, slots));
+    let slot = numbers::below(numbers::next(seed), slots.min(80));
     let changed = tallies::one_more(tally, CHANGES);
     let counted = tallies::one_more_if(changed, SOUND, audits::sound::is_sound(image));
-    calls(out, image, shapes::opening(&label, n), slot, seed, counted)
+    calls(out, image, label.as_slice(), slot, seed, counted)
 }
 
-// Writes a label of the shape, and for an old table one that fits it; gives its length.
-fn write_label(label: &mut Label, width: usize, shape: usize, kind: usize, seed: u64) -> usize {
+// A label of the shape, and for an old table one that fits it.
+fn label_of(width: usize, shape: Shape, kind: usize, seed: u64) -> Label {
     if kind == OLD {
-        return write_old(label, width, shape, seed);
+        return old_label(width, shape, seed);
     }
-    shapes::write(label, width, shape, numbers::below(seed, 80))
+    shape.label(width, numbers::below(seed, 80))
 }
 
 // Three times of four a label that the table may hold, else any of letters.
-fn write_old(label: &mut Label, width: usize, shape: usize, seed: u64) -> usize {
+fn old_label(width: usize, shape: Shape, seed: u64) -> Label {
     let draw = numbers::mixed_seed(seed, OLD);
     let k = numbers::below(draw, 80);
     if numbers::below(numbers::next(draw), 4) == 0 {
-        return shapes::write(label, width, shapes::LETTERS, k);
+        return Shape::Letters.label(width, k);
     }
-    let n = shapes::write(label, width, shape, k);
-    changes::write_old(label, seed);
-    n
+    changes::old_label(&shape.label(width, k), seed)
 }
 
 // How many of these calls the index has.
 pub fn calls_of(image: &Image) -> usize {
     if image.is_page() {
-        return SET_CHARGE;
+        return Call::OF_BOTH.len();
     }
     ALL_CALLS
 }
@@ -174,15 +171,24 @@ pub fn call(
     seed: u64,
     tally: Tally,
 ) -> io::Result<Tally> {
-    if k < SET_CHARGE {
-        return tried(out, image, k, label, slot, ANY_REFUSAL, tally);
+    if let Some(call) = Call::OF_BOTH.get(k) {
+        return tried(out, image, *call, label, slot, ANY_REFUSAL, tally);
     }
     let draw = numbers::mixed_seed(seed, k);
-    let charge = match k {
-        SET_CHARGE => charges::right(draw),
-        _ => charges::wrong(draw),
+    let charge = if k == Call::OF_BOTH.len() {
+        charges::right(draw)
+    } else {
+        charges::wrong(draw)
     };
-    tried(out, image, SET_CHARGE, label, charge, ANY_REFUSAL, tally)
+    tried(
+        out,
+        image,
+        Call::SetCharge,
+        label,
+        charge,
+        ANY_REFUSAL,
+        tally,
+    )
 }
 
 // Makes a call that is to have a refusal's number, with a slot, a value or a charge, and counts it; where it has a
@@ -190,7 +196,7 @@ pub fn call(
 pub fn tried(
     out: Stdout,
     image: &Image,
-    call: usize,
+    call: Call,
     label: &[u8],
     number: usize,
     refusal: usize,

@@ -5,7 +5,7 @@ use plans::edges;
 use plans::planned::Planned;
 use reports::tallies;
 use reports::tallies::{CHANGES, Tally};
-use samples::shapes;
+use samples::shapes::Shape;
 use std::io;
 use std::io::Stdout;
 
@@ -15,7 +15,7 @@ pub fn run(out: Stdout, image: &Image) -> io::Result<()> {
         return Ok(());
     }
     let tally = made(out, image)?;
-    tallies::print_lent(out, false, shapes::ROSTER, 1, tally)
+    tallies::print_lent(out, false, Shape::Roster, 1, tally)
 }
 
 fn made(out: Stdout, image: &Image) -> io::Result<Tally> {
@@ -41,14 +41,13 @@ fn on_memory(
 }
 
 fn call(out: Stdout, image: &Image, planned: Planned, tally: Tally) -> io::Result<Tally> {
-    let mut label = [0u8; 66];
     let width = image.sizes.width;
-    let n = shapes::write(&mut label, width, planned.shape, planned.label);
+    let label = planned.shape.label(width, planned.label);
     damage::tried(
         out,
         image,
         planned.call,
-        shapes::opening(&label, n),
+        label.as_slice(),
         planned.charge,
         planned.refusal,
         tally,

@@ -9,8 +9,9 @@ use plans::files::Edge;
 use plans::{files, lengths, planned};
 use reports::tallies::Tally;
 use reports::{Round, faults, tallies};
-use samples::calls::{DELETE, INSERT, SET_CHARGE};
+use samples::calls::Call;
 use samples::charges;
+use samples::shapes::Shape;
 use std::io;
 use std::io::Stdout;
 
@@ -37,7 +38,7 @@ fn run_group(out: Stdout, image: &mut Image, map: &mut Lists, group: usize) -> i
     print(out, files::shape(group), group, tally, loaded)
 }
 
-fn print(out: Stdout, shape: usize, group: usize, saved: Tally, loaded: Tally) -> io::Result<()> {
+fn print(out: Stdout, shape: Shape, group: usize, saved: Tally, loaded: Tally) -> io::Result<()> {
     tallies::print_edge_saves(out, shape, group, saved)?;
     tallies::print_edge_loads(out, shape, group, loaded)
 }
@@ -51,11 +52,11 @@ fn table(
     tally: Tally,
 ) -> io::Result<Tally> {
     sequences::empty(image, map);
-    let filled = each(out, image, map, INSERT, edge, tally)?;
+    let filled = each(out, image, map, Call::Insert, edge, tally)?;
     let then = edge.then;
     let ended = match then {
-        DELETE => each(out, image, map, DELETE, edge, filled)?,
-        SET_CHARGE => charge_each(out, image, map, edge, filled)?,
+        Call::Delete => each(out, image, map, Call::Delete, edge, filled)?,
+        Call::SetCharge => charge_each(out, image, map, edge, filled)?,
         _ => filled,
     };
     save_all(out, image, map, edge.bytes, ended)
@@ -66,7 +67,7 @@ fn each(
     out: Stdout,
     image: &mut Image,
     map: &mut Lists,
-    call: usize,
+    call: Call,
     edge: Edge,
     tally: Tally,
 ) -> io::Result<Tally> {
@@ -84,13 +85,13 @@ fn on_label(
     out: Stdout,
     image: &mut Image,
     map: &mut Lists,
-    call: usize,
+    call: Call,
     edge: Edge,
     k: usize,
     tally: Tally,
 ) -> io::Result<Tally> {
     let mut number = edge.value;
-    if call == SET_CHARGE {
+    if call == Call::SetCharge {
         number = charges::own(k);
     }
     let planned = planned::named(call, edge.shape, k, 0);
@@ -125,7 +126,7 @@ fn charge(
     before: &Output,
     tally: Tally,
 ) -> io::Result<Tally> {
-    let charged = on_label(out, image, map, SET_CHARGE, edge, k, tally)?;
+    let charged = on_label(out, image, map, Call::SetCharge, edge, k, tally)?;
     saving::count(out, rounds::saving::again(image, map, before), charged)
 }
 

@@ -6,8 +6,9 @@ use plans::lengths;
 use plans::planned::ANY_REFUSAL;
 use reports::tallies;
 use reports::tallies::{CHANGES, Tally};
-use samples::calls::LISTING;
-use samples::{numbers, shapes};
+use samples::calls::Call;
+use samples::numbers;
+use samples::shapes::Shape;
 use std::io;
 use std::io::Stdout;
 
@@ -17,7 +18,7 @@ const SLOT: usize = 2;
 pub fn run(out: Stdout, image: &Image) -> io::Result<()> {
     let lent = lend(out, image)?;
     let tally = listings(out, image, lent)?;
-    tallies::print_lent(out, image.is_page(), shapes::ROSTER, 0, tally)
+    tallies::print_lent(out, image.is_page(), Shape::Roster, 0, tally)
 }
 
 // All calls on memory of each pair of lengths, with labels of each length.
@@ -31,20 +32,20 @@ fn lend(out: Stdout, image: &Image) -> io::Result<Tally> {
 }
 
 fn lent(out: Stdout, image: &Image, k: usize, tally: Tally) -> io::Result<Tally> {
-    let label = [104u8; 66];
     let mut copy = *image;
     lengths::lend(&mut copy, k / ALL_CALLS % lengths::PAIRS);
     if k % ALL_CALLS >= damage::calls_of(&copy) {
         return Ok(tally);
     }
     let width = image.sizes.width;
-    let n = lengths::label(k / ALL_CALLS / lengths::PAIRS, width);
+    let label = [b'h'; 66];
+    let n = lengths::label(k / ALL_CALLS / lengths::PAIRS, width).min(66);
     let seed = numbers::mixed_seed(numbers::SEED, k);
     damage::call(
         out,
         &copy,
         k % ALL_CALLS,
-        shapes::opening(&label, n),
+        &label[..n],
         SLOT,
         seed,
         counted(image, &copy, tally),
@@ -71,5 +72,5 @@ fn listing(out: Stdout, image: &Image, i: usize, tally: Tally) -> io::Result<Tal
     let room = lengths::room(i, image.head(Head::Held));
     copy.lent.room = room;
     let counted = counted(image, &copy, tally);
-    damage::tried(out, &copy, LISTING, b"", 0, ANY_REFUSAL, counted)
+    damage::tried(out, &copy, Call::Listing, b"", 0, ANY_REFUSAL, counted)
 }

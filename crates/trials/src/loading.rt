@@ -8,7 +8,7 @@ use plainmap::lists::Lists;
 use plans::lengths;
 use reports::tallies::Tally;
 use reports::{Round, tallies};
-use samples::calls::LOAD;
+use samples::calls::Call;
 use samples::numbers;
 use std::io;
 use std::io::Stdout;
@@ -83,9 +83,9 @@ fn count(
     let mut named = round;
     named.fault = sequences::fault_of(round, refusal);
     if named.fault > 0 {
-        tallies::print_mismatch(out, LOAD, b"", named.fault)?;
+        tallies::print_mismatch(out, Call::Load, b"", named.fault)?;
     }
-    Ok(tallies::count(tally, LOAD, named, held))
+    Ok(tallies::count(tally, Call::Load, named, held))
 }
 
 // Loads a file of so many bytes, which is to have a refusal's number; the image stays.

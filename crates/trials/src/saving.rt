@@ -7,8 +7,9 @@ use plainmap::lists::Lists;
 use plans::lengths;
 use reports::tallies::{CHANGES, Tally};
 use reports::{Round, tallies};
-use samples::calls::SAVE;
-use samples::{numbers, shapes};
+use samples::calls::Call;
+use samples::numbers;
+use samples::shapes::Shape;
 use std::io;
 use std::io::Stdout;
 
@@ -37,7 +38,7 @@ pub fn on_damaged(out: Stdout, image: &Image, seed: u64, tally: &mut Tally) -> i
         return Ok(());
     }
     let map = saves::map_of(image);
-    let draw = numbers::mixed_seed(seed, SAVE);
+    let draw = numbers::mixed_seed(seed, Call::Save as usize);
     let changed = tallies::one_more(*tally, CHANGES);
     let counted = in_turn(
         out,
@@ -65,16 +66,16 @@ fn in_turn(
 // Counts a save, which moves no count of labels; where it has a fault it is printed.
 pub fn count(out: Stdout, round: Round, tally: Tally) -> io::Result<Tally> {
     if round.fault > 0 {
-        tallies::print_mismatch(out, SAVE, b"", round.fault)?;
+        tallies::print_mismatch(out, Call::Save, b"", round.fault)?;
     }
-    Ok(tallies::count(tally, SAVE, round, 0))
+    Ok(tallies::count(tally, Call::Save, round, 0))
 }
 
 // Makes saves of memory of each pair of lengths, into outputs of each length, and prints their line.
 pub fn run_lent(out: Stdout, image: &Image) -> io::Result<()> {
     let map = saves::map_of(image);
     let tally = lend(out, image, &map)?;
-    tallies::print_refused_saves(out, image.is_page(), shapes::ROSTER, 1, tally)
+    tallies::print_refused_saves(out, image.is_page(), Shape::Roster, 1, tally)
 }
 
 fn lend(out: Stdout, image: &Image, map: &Lists) -> io::Result<Tally> {

@@ -7,8 +7,8 @@ use plans::groups::Plan;
 use plans::planned::{ANY_REFUSAL, Planned};
 use reports::tallies::Tally;
 use reports::{Round, faults, tallies};
-use samples::calls::SET_CHARGE;
-use samples::{numbers, shapes};
+use samples::calls::Call;
+use samples::numbers;
 use std::io;
 use std::io::Stdout;
 
@@ -28,7 +28,7 @@ pub fn run(out: Stdout, image: &mut Image, map: &mut Lists, plan: Plan) -> io::R
 
 // Empties an index and a map.
 pub fn empty(image: &mut Image, map: &mut Lists) {
-    rounds::calls::make(image, samples::calls::LAYOUT, b"", 0);
+    rounds::calls::make(image, Call::Layout, b"", 0);
     plainmap::clear(map, image.sizes.slots, image.sizes.width);
 }
 
@@ -86,19 +86,18 @@ pub fn numbered(
     number: usize,
     tally: Tally,
 ) -> io::Result<Tally> {
-    let mut label = [0u8; 66];
     let width = image.sizes.width;
-    let n = shapes::write(&mut label, width, planned.shape, planned.label);
-    let round = labelled(out, image, map, planned, shapes::opening(&label, n), number)?;
+    let label = planned.shape.label(width, planned.label);
+    let round = labelled(out, image, map, planned, label.as_slice(), number)?;
     Ok(tallies::count(tally, planned.call, round, plainmap::held(map)))
 }
 
 // The charge of a call that sets one; of any other a value, after so many inserts.
 fn number_of(planned: Planned, inserted: usize) -> usize {
-    if planned.call == SET_CHARGE {
+    if planned.call == Call::SetCharge {
         return planned.charge;
     }
-    numbers::value(planned.label, inserted)
+    usize::from(numbers::value(planned.label, inserted))
 }
 
 // Makes a call on a label; where it has a fault it is printed.

@@ -6,7 +6,7 @@ use plans::planned::ANY_REFUSAL;
 use plans::{lengths, written};
 use reports::tallies;
 use reports::tallies::{CHANGES, Tally};
-use samples::shapes;
+use samples::shapes::Shape;
 use std::io;
 use std::io::Stdout;
 
@@ -51,7 +51,7 @@ fn load(
 // Loads the first file of each group into memory of each pair of lengths, and prints their line.
 pub fn run_lent(out: Stdout, image: &Image) -> io::Result<()> {
     let tally = lend(out, image)?;
-    tallies::print_file_loads(out, image.is_page(), shapes::ROSTER, 2, tally)
+    tallies::print_file_loads(out, image.is_page(), Shape::Roster, 2, tally)
 }
 
 fn lend(out: Stdout, image: &Image) -> io::Result<Tally> {
