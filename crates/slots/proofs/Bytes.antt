@@ -1,23 +1,22 @@
 -- Bytes set into a store one after the other, and the length of a label that is read.
 -- `label_set`, `label_room_lem`: a label is set as far as the store goes.
--- `clear_next`, `clear_all`: the first of the bytes that are left is cleared; no byte is left.
+-- `part_cleared`: a part is cleared as far as the store goes.
 -- `length_of_label`: a label is at most as long as its length word says.
-use Prim.Native.Nat.{ℕ, zero, suc, ◌+◌, ◌-◌, ◌≤◌, ◌<◌, min}
+use Prim.Native.Nat.{ℕ, zero, suc, ◌-◌, ◌≤◌, ◌<◌, min}
 use mathlib.Core.Path.{◌≡◌, refl, sym, ap, ◌∙◌}
 use mathlib.Core.Bool.{Bool}
 use mathlib.Core.List.{List, [], ◌∷◌}
 use native.Mathlib.Omega.{arith}
-use lib.ListN.{length, set, take, drop, replicate, length-set, length-take}
+use borrow.Rule.Slice.PartMut.{put_mid}
+use lib.ListN.{length, set, take, drop, replicate, length-set, length-take, length-replicate}
 use lib.Seq.{sets, set_out, take-nil}
 use Rattle.types.specs.declared.Limits.{Limits}
 use Rattle.labels.proofs.Numbers.{Ltb, lt_yes, lt_no, ltb_view}
 use Rattle.tables.specs.Words.{part_start, label_at}
 use Rattle.words.specs.Filled.{Filled, HasRoom}
+use Rattle.words.proofs.Fills.{filled_part}
 use Rattle.words.proofs.PartLaws.{take_clipped}
-use Rattle.slots.specs.Slots.{with_label}
-
-next_place : (start i : ℕ) → suc (start + i) ≡ start + (i + 1)
-next_place start i = omega arith
+use Rattle.slots.specs.Slots.{with_label, without_label}
 
 -- From past the end on nothing is set.
 sets_past : (l run : List ℕ) (at : ℕ) → length l ≤ at → sets l at run ≡ l
@@ -67,26 +66,31 @@ pub label_room_lem : (store label : List ℕ) (from start n : ℕ) → start ≡
     → n ≡ min (length label) (length store - start) → HasRoom (take n label) start store
 label_room_lem store label from start n starts counts = omega (arith, length-take n label)
 
-one_less : (width i : ℕ) → i < width → width - i ≡ suc (width - (i + 1))
-one_less width i more = omega arith
+abbrev zeros : ℕ → List ℕ
+zeros n = replicate n 0
 
-none_left : (width i : ℕ) → width ≤ i → width - i ≡ 0
-none_left width i done = omega arith
+take_zeros : (width n : ℕ) → n ≤ width → take n (zeros width) ≡ zeros n
+take_zeros width zero few = refl
+take_zeros zero (suc n) few = absurd (omega arith)
+take_zeros (suc width) (suc n) few = ap (λ (more : List ℕ). 0 ∷ more) (take_zeros width n (omega arith))
 
--- The next byte of a part is cleared.
-pub clear_next : (store next : List ℕ) (start i width : ℕ) (whole : List ℕ)
-    → sets store (start + i) (replicate (width - i) 0) ≡ whole → i < width → next ≡ set store (start + i) 0
-    → sets next (start + (i + 1)) (replicate (width - (i + 1)) 0) ≡ whole
-clear_next store next start i width whole left more stored =
-    let step : sets store (start + i) (replicate (width - i) 0)
-    ≡ sets next (suc (start + i)) (replicate (width - (i + 1)) 0) =
-    rw (one_less width i more, stored) in
-    rw (← next_place start i) (sym step ∙ left)
+count_zeros : (n : ℕ) → length (zeros n) ≡ n
+count_zeros n = length-replicate n 0
 
--- Every byte of a part is cleared.
-pub clear_all : (store : List ℕ) (start i width : ℕ) (whole : List ℕ)
-    → sets store (start + i) (replicate (width - i) 0) ≡ whole → width ≤ i → store ≡ whole
-clear_all store start i width whole left done = rw (none_left width i done) at left
+-- A part is cleared as far as the store goes.
+pub part_cleared : (limits : Limits) (store part : List ℕ) (slot from start n count : ℕ) → from ≡ part_start limits slot
+    → start ≡ min from (length store) → n ≡ min limits.width (length store - start) → count ≡ n
+    → part ≡ replicate n 0 → put_mid start count store part ≡ without_label limits store slot
+unfolding without_label
+part_cleared limits store part slot from start n count at starts counts all cleared =
+    let whole = count_zeros limits.width in
+    let few : n ≡ min (length (zeros limits.width)) (length store - start) = rw whole counts in
+    let run : take n (zeros limits.width) ≡ zeros n = take_zeros limits.width n (omega arith) in
+    let size : count ≡ length (take n (zeros limits.width)) = rw (run, count_zeros n) all in
+    let room = label_room_lem store (zeros limits.width) from start n starts few in
+    (filled_part (take n (zeros limits.width)) store part start count room size (cleared ∙ sym run)).list
+    ∙ sets_clipped store (zeros limits.width) from start n starts few
+    ∙ ap (λ (k : ℕ). sets store k (zeros limits.width)) at
 
 -- A label is at most as long as its length word says.
 pub length_of_label : (limits : Limits) (store : List ℕ) (slot len : ℕ) (label : List ℕ)

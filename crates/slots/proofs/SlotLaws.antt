@@ -13,11 +13,10 @@ use mathlib.Core.Bool.{Bool, true, false, cond}
 use lib.Dec.{eqb}
 use lib.ListN.{get_or, set}
 use borrow.Author.Tests.{eq-eqb, ne_eqb}
+use Rattle.std.specs.Prelude.{Option, Some, None}
 use Rattle.types.specs.declared.Row.{Row}
 use Rattle.tables.specs.Words.{root_link, first_free, slot_start, row_at}
 use Rattle.words.proofs.OneWord.{put_place}
-use Rattle.slots.specs.declared.Free.{Free}
-use Rattle.slots.specs.declared.Free.TheVariants.{Slot, None}
 use Rattle.slots.specs.Slots.{free_slot, slot_taken, after_taken, with_root_place}
 
 abbrev pub popped : List ℕ → List ℕ
@@ -32,7 +31,7 @@ pub popped_none : (table : List ℕ) (first : ℕ) → first ≡ first_free tabl
 popped_none table first read none = simp (eq-eqb (first_free table) 0 (sym read ∙ none))
 
 -- The first slot of the free chain is free, and is taken out of the chain.
-pub first_free_lem : (table : List ℕ) (first : ℕ) → first ≡ first_free table → first ≢ 0 → Slot first ≡ free_slot table
+pub first_free_lem : (table : List ℕ) (first : ℕ) → first ≡ first_free table → first ≢ 0 → Some first ≡ free_slot table
 unfolding free_slot
 first_free_lem table first read some = simp (ne_eqb (first_free table) 0 (λ none. some (read ∙ none))) (cc)
 
@@ -41,17 +40,17 @@ pub popped_first : (table after : List ℕ) (first : ℕ) (row : Row) → first 
 popped_first table after first row read some of_row stored =
     simp (ne_eqb (first_free table) 0 (λ none. some (read ∙ none))) (cc)
 
-none_only : (empty : Bool) (first : ℕ) → None ≡ cond empty None (Slot first) → empty ≡ true
+none_only : (empty : Bool) (first : ℕ) → None ≡ cond empty None (Some first) → empty ≡ true
 none_only true first same = refl
 none_only false first same = cc
 
-slot_only : (empty : Bool) (first slot : ℕ) → Slot slot ≡ cond empty None (Slot first)
+slot_only : (empty : Bool) (first slot : ℕ) → Some slot ≡ cond empty None (Some first)
     → (empty ≡ false) × (slot ≡ first)
 slot_only true first slot same = ((cc), cc)
 slot_only false first slot same = (refl, cc)
 
 -- Where no slot is free, the table stays.
-pub popped_as_it_was : (table below : List ℕ) {free : Free} → free ≡ free_slot table → below ≡ popped table → free ≡ None
+pub popped_as_it_was : (table below : List ℕ) {free : Option ℕ} → free ≡ free_slot table → below ≡ popped table → free ≡ None
     → below ≡ table
 unfolding free_slot
 popped_as_it_was table below of_table_lem left none =
@@ -59,7 +58,7 @@ popped_as_it_was table below of_table_lem left none =
     left ∙ simp empty
 
 -- The slot above the high mark is taken, where none is free.
-pub taken_above : (table below after : List ℕ) {free : Free} {mark : ℕ} → free ≡ free_slot table → below ≡ popped table
+pub taken_above : (table below after : List ℕ) {free : Option ℕ} {mark : ℕ} → free ≡ free_slot table → below ≡ popped table
     → free ≡ None → mark ≡ get_or below 3 0 → after ≡ set below 3 (mark + 1)
     → (mark + 1 ≡ slot_taken table) × (after ≡ after_taken table)
 unfolding free_slot slot_taken after_taken
@@ -69,8 +68,8 @@ taken_above table below after of_table_lem left none read stored =
     (simp empty (cc stays), simp empty (cc stays))
 
 -- The slot freed last is taken.
-pub taken_freed : (table below : List ℕ) {free : Free} {slot : ℕ} → free ≡ free_slot table → below ≡ popped table
-    → free ≡ Slot slot → (slot ≡ slot_taken table) × (below ≡ after_taken table)
+pub taken_freed : (table below : List ℕ) {free : Option ℕ} {slot : ℕ} → free ≡ free_slot table → below ≡ popped table
+    → free ≡ Some slot → (slot ≡ slot_taken table) × (below ≡ after_taken table)
 unfolding free_slot slot_taken after_taken
 taken_freed table below {slot = slot} of_table_lem left some =
     let full = slot_only (eqb (first_free table) 0) (first_free table) slot (sym some ∙ of_table_lem) in

@@ -1,5 +1,5 @@
 -- Slots taken and freed, in a table's words, and labels set into a store and taken out of it.
-use Rattle.std.specs.Prelude.{List, cond, ℕ, ◌+◌, eqb, set, replicate}
+use Rattle.std.specs.Prelude.{List, Option, Some, None, cond, ℕ, ◌+◌, eqb, set, replicate}
 use Rattle.std.proofs.lemmas.List.Edits.{sets}
 use Rattle.types.specs.declared.Limits.{Limits}
 use Rattle.labels.specs.Labels.{Label}
@@ -7,11 +7,10 @@ use Rattle.tables.specs.Words.{root_link, first_free, high_mark, row_at, part_st
 use Rattle.tables.specs.Written.{free_row}
 use Rattle.words.specs.Rows.{put_row}
 use Rattle.sides.specs.Rows.{prefixed}
-use Rattle.slots.specs.declared.Free as free
 
 -- "A new label takes the slot freed last; if none is free, the slot just above the high mark, which rises by one."
-unfoldable pub free_slot : List ℕ → free.Free
-free_slot table = cond (eqb (first_free table) 0) free.TheVariants.None (free.TheVariants.Slot (first_free table))
+unfoldable pub free_slot : List ℕ → Option ℕ
+free_slot table = cond (eqb (first_free table) 0) None (Some (first_free table))
 
 unfoldable pub slot_taken : List ℕ → ℕ
 slot_taken table = cond (eqb (first_free table) 0) (high_mark table + 1) (first_free table)

@@ -2,7 +2,7 @@
 // A word or a byte past the end is not stored.
 #![tactic(auto)]
 
-ghost use Rattle.std.specs.Prelude.{◌≡◌, cond, ◌+◌, ◌<◌, eqb, set};
+ghost use Rattle.std.specs.Prelude.{◌≡◌, cond, ◌<◌, eqb, set};
 ghost use Rattle.tables.specs.Words.{first_free, high_mark, row_at};
 ghost use Rattle.words.specs.Limits.{LimitsFit};
 ghost use Rattle.slots.specs.Slots.{free_slot, slot_taken, after_taken, after_freed, with_count, with_root_place};
@@ -10,26 +10,19 @@ ghost use Rattle.slots.specs.Slots.{with_label, without_label};
 
 use types::{Limits, Row};
 
-// The free chain's first slot, or none.
-#[derive(Clone, Copy)]
-pub enum Free {
-    Slot(u16),
-    None,
-}
-
 // Takes the slot freed last out of the free chain, where there is one.
-pub fn pop_free(table: &mut [u16]) -> Free
+pub fn pop_free(table: &mut [u16]) -> Option<u16>
     ensures value { result ≡ free_slot table.old }
     ensures table_after { table.new ≡ cond (eqb (first_free table.old) 0) table.old
         (set table.old 2 (row_at table.old (first_free table.old)).left) }
 {
     let first = words::total::word(table, 2);
     if first == 0 {
-        return Free::None;
+        return None;
     }
     let row = words::total::row_of(table, first);
     words::total::set_word(table, 2, row.left);
-    Free::Slot(first)
+    Some(first)
 }
 
 // Takes a slot for a new label: the one freed last, and if none is free, the one just above the high mark.
@@ -38,8 +31,7 @@ pub fn take_slot(table: &mut [u16]) -> u16
     ensures value { result ≡ slot_taken table.old }
     ensures table_after { table.new ≡ after_taken table.old }
 {
-    let free = pop_free(table);
-    let Free::Slot(slot) = free else {
+    let Some(slot) = pop_free(table) else {
         let mark = words::total::word(table, 3) + 1;
         words::total::set_word(table, 3, mark);
         return mark;
@@ -83,24 +75,13 @@ pub fn set_root_place(table: &mut [u16], place: u16)
     }
 }
 
-// Stores a byte so many bytes after a start.
-pub fn set_byte(store: &mut [u8], start: usize, i: usize, byte: u8)
-    ensures { store.new ≡ set store.old (start + i) byte }
-{
-    if start < store.len() {
-        if i < store.len() - start {
-            store[start + i] = byte;
-        }
-    }
-}
-
 // Stores a label at the front of its slot's part.
 pub fn set_label(limits: Limits, store: &mut [u8], slot: u16, label: &[u8])
     requires { LimitsFit limits }
     ensures { store.new ≡ with_label limits store.old slot label.now }
 {
-    let start = words::total::clipped(words::total::part_start(limits, slot), store.len());
-    let n = words::total::clipped(label.len(), store.len() - start);
+    let start = words::total::part_start(limits, slot).min(store.len());
+    let n = label.len().min(store.len() - start);
     words::runs::put_bytes(store, start, &label[..n]);
 }
 
@@ -109,10 +90,7 @@ pub fn clear_label(limits: Limits, store: &mut [u8], slot: u16)
     requires { LimitsFit limits }
     ensures { store.new ≡ without_label limits store.old slot }
 {
-    let start = words::total::part_start(limits, slot);
-    let mut i = 0;
-    while i < limits.width {
-        set_byte(store, start, i, 0);
-        i += 1;
-    }
+    let start = words::total::part_start(limits, slot).min(store.len());
+    let n = limits.width.min(store.len() - start);
+    store[start..start + n].fill(0);
 }
