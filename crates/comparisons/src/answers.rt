@@ -1,14 +1,20 @@
 // The answer of a call on a sound table, compared with the map's and the second writing's.
+use crate::Request;
 use images::memory::Image;
 use images::packing;
 use oracles::{bounds, updates};
 use plainmap::Said;
 use plainmap::lists::Lists;
-use reports::faults;
+use reports::faults::{Fault, ensure};
 use samples::calls::Call;
 
-// Makes a search or an update on the map, with a value or a charge.
-pub fn on_map(map: &mut Lists, call: Call, label: &[u8], number: usize) -> Said {
+// Makes a search or an update on the map.
+pub fn on_map(map: &mut Lists, request: Request) -> Said {
+    let Request {
+        call,
+        label,
+        number,
+    } = request;
     match call {
         Call::Search => plainmap::search(map, label),
         Call::Insert => plainmap::insert(map, label, (number % 65536) as u16),
@@ -17,34 +23,38 @@ pub fn on_map(map: &mut Lists, call: Call, label: &[u8], number: usize) -> Said 
     }
 }
 
-// The fault of an answer: beside the second writing's, the map's, and the bounds, with the most bytes that the label
-// shares with one held before the call.
-pub fn fault(
+// Compares an answer with the second writing's, the map's, and the bounds, with the most bytes that the label shares
+// with one held before the call.
+pub fn compare(
     found: &Image,
-    call: Call,
-    label: &[u8],
-    number: usize,
+    request: Request,
     shared: usize,
     said: usize,
     plain: Said,
-) -> usize {
-    if said != updates::on_sound(found, call, label, number) {
-        return faults::ANSWER;
-    }
-    if said != as_map(call, said, plain) {
-        return faults::MAP;
-    }
-    bounds_fault(found, label, shared, said)
+) -> Result<(), Fault> {
+    let Request {
+        call,
+        label,
+        number,
+    } = request;
+    ensure(
+        said == updates::on_sound(found, call, label, number),
+        Fault::Answer,
+    )?;
+    ensure(said == as_map(call, said, plain), Fault::Map)?;
+    compare_bounds(found, label, shared, said)
 }
 
-// The fault of counts beside the bounds: those of the answer, and those of the search steps, since a refused call made
-// a search too.
-pub fn bounds_fault(found: &Image, label: &[u8], shared: usize, said: usize) -> usize {
-    let fault = counts_fault(found, label.len(), shared, said);
-    if fault > 0 {
-        return fault;
-    }
-    counts_fault(found, label.len(), shared, searched(found, label))
+// Compares counts with the bounds: those of the answer, and those of the search steps, since a refused call made a
+// search too.
+pub fn compare_bounds(
+    found: &Image,
+    label: &[u8],
+    shared: usize,
+    said: usize,
+) -> Result<(), Fault> {
+    compare_counts(found, label.len(), shared, said)?;
+    compare_counts(found, label.len(), shared, searched(found, label))
 }
 
 // What the search steps say.
@@ -52,22 +62,14 @@ fn searched(found: &Image, label: &[u8]) -> usize {
     updates::on_sound(found, Call::Search, label, 0)
 }
 
-fn counts_fault(found: &Image, len: usize, shared: usize, answer: usize) -> usize {
-    if !bounds::hold(found, len, answer) {
-        return faults::BOUNDS;
-    }
-    if !bounds::shared_holds(shared, answer) {
-        return faults::SHARED;
-    }
-    0
+fn compare_counts(found: &Image, len: usize, shared: usize, answer: usize) -> Result<(), Fault> {
+    ensure(bounds::hold(found, len, answer), Fault::Bounds)?;
+    ensure(bounds::shared_holds(shared, answer), Fault::Shared)
 }
 
 // Whether the search of a call reached the bound by shared bytes; a call that refuses a charge makes none.
 pub fn reached(found: &Image, label: &[u8], shared: usize, said: usize) -> bool {
-    if packing::refusal(said) == 24 {
-        return false;
-    }
-    bounds::shared_reached(shared, searched(found, label))
+    packing::refusal(said) != 24 && bounds::shared_reached(shared, searched(found, label))
 }
 
 // What the map said, with the counts of an answer.

@@ -9,3 +9,24 @@ pub mod loads;
 mod maps;
 pub mod saves;
 pub mod states;
+
+use samples::calls::Call;
+
+// A call, on a label, with a value, a charge or a slot.
+#[derive(Clone, Copy)]
+pub struct Request<'a> {
+    pub call: Call,
+    pub label: &'a [u8],
+    pub number: usize,
+}
+
+impl Request<'_> {
+    // A call that takes neither.
+    pub fn bare(call: Call) -> Request<'static> {
+        Request {
+            call,
+            label: b"",
+            number: 0,
+        }
+    }
+}

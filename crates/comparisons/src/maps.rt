@@ -2,16 +2,13 @@
 use images::memory::{Field, Head, Image};
 use plainmap::lists::Lists;
 use samples::shapes::Label;
-use std::num::wrapping_add_usize;
 
 // The map of the labels in the slots of a table, each in its slot, with its value and its charge.
 pub fn of_table(image: &Image) -> Lists {
     let mut map = [0u16; 35910];
-    let width = image.sizes.width;
-    plainmap::clear(&mut map, image.sizes.slots, width);
-    let mark = image.head(Head::Mark);
-    for i in 0..mark {
-        take(image, &mut map, wrapping_add_usize(i, 1));
+    plainmap::clear(&mut map, image.sizes.slots, image.sizes.width);
+    for slot in 1..=image.head(Head::Mark) {
+        take(image, &mut map, slot);
     }
     map
 }
@@ -20,7 +17,10 @@ pub fn of_table(image: &Image) -> Lists {
 fn take(image: &Image, map: &mut Lists, slot: usize) {
     let n = image.field(slot, Field::Length);
     if n > 0 {
-        let label = read(image, slot, n);
+        let mut label = Label::EMPTY;
+        for j in 0..n {
+            label.push((image.byte(slot, j) % 256) as u8);
+        }
         let value = image.field(slot, Field::Value);
         plainmap::hold(
             map,
@@ -30,13 +30,4 @@ fn take(image: &Image, map: &mut Lists, slot: usize) {
             image.field(slot, Field::Charge),
         );
     }
-}
-
-// The first bytes of a slot, so many.
-fn read(image: &Image, slot: usize, n: usize) -> Label {
-    let mut label = Label::EMPTY;
-    for j in 0..n {
-        label.push((image.byte(slot, j) % 256) as u8);
-    }
-    label
 }

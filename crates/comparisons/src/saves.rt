@@ -6,19 +6,20 @@ use images::outputs::Output;
 use images::{outputs, packing};
 use plainmap::files;
 use plainmap::lists::Lists;
-use reports::faults;
+use reports::faults::{Fault, ensure};
 
-// The fault of a save into the first bytes of an output, so many: its answer, or what it left of the whole output, past
+// Compares a save into the first bytes of an output, so many: its answer, and what it left of the whole output, past
 // the file and past the bytes lent too.
-pub fn fault(image: &Image, map: &Lists, left: &Output, room: usize, said: usize) -> usize {
+pub fn compare(
+    image: &Image,
+    map: &Lists,
+    left: &Output,
+    room: usize,
+    said: usize,
+) -> Result<(), Fault> {
     let mut due = outputs::fresh();
-    if said != judge(image, map, &mut due, room) {
-        return faults::ANSWER;
-    }
-    if due == *left {
-        return 0;
-    }
-    faults::OUTPUT
+    ensure(said == judge(image, map, &mut due, room), Fault::Answer)?;
+    ensure(due == *left, Fault::Output)
 }
 
 // What a save says, and what it leaves in an output of which so many bytes are lent: a file that fits, or what was
@@ -39,14 +40,10 @@ fn judge(image: &Image, map: &Lists, output: &mut Output, room: usize) -> usize 
 
 // The number that refuses a save of memory, whatever the output: by its lengths, then as not sound; or 0.
 fn refusal(image: &Image) -> usize {
-    let why = lengths::lent_refusal(image);
-    if why > 0 {
-        return why;
+    match lengths::lent_refusal(image) {
+        0 if !sound::is_sound(image) => 6,
+        why => why,
     }
-    if sound::is_sound(image) {
-        return 0;
-    }
-    6
 }
 
 // The map of what memory holds, an empty one where a save of it is refused.

@@ -1,18 +1,35 @@
 // What the tests count and print.
 #![tactic(auto)]
 
+pub mod counts;
 pub mod faults;
+pub mod hexes;
 pub mod tallies;
-pub mod texts;
 
-// What came of a call: the fault, that is what differs first, 0 for nothing; the kind of the index's answer, with the
-// number where it is 0, a refusal; whether its search reached the bound by shared bytes; and how many bytes a save
-// wrote.
-#[derive(Clone, Copy)]
+use faults::Fault;
+use std::io::Stdout;
+
+// What came of a call: whether it agrees, or what differs first; the index's answer in one number; and whether its
+// search reached the bound by shared bytes.
+#[derive(Clone, Copy, Debug)]
 pub struct Round {
-    pub fault: usize,
-    pub kind: usize,
-    pub refusal: usize,
+    pub agrees: Result<(), Fault>,
+    pub said: usize,
     pub reached: bool,
-    pub written: usize,
+}
+
+// What a group counts, and where its lines are printed.
+#[derive(Clone, Copy)]
+pub struct Report<T> {
+    pub out: Stdout,
+    pub tally: T,
+}
+
+impl<T: Default> Report<T> {
+    pub fn new(out: Stdout) -> Self {
+        Report {
+            out,
+            tally: T::default(),
+        }
+    }
 }

@@ -6,13 +6,16 @@ use images::outputs;
 use images::outputs::Output;
 use plainmap::lists::Lists;
 use plans::bytes;
+use reports::Report;
 use samples::numbers;
-use sheets::{Sheet, drawn, names, written};
-use std::io;
+use sheets::{drawn, names, written};
 use std::io::Stdout;
+use std::{io, str};
 
-// The most texts of a group, and the most bytes of a small one.
+// The most texts of a group, the small texts, and the bytes that each of these has less than.
 const TEXTS: usize = 64;
+
+const SMALL_TEXTS: usize = 7;
 
 const SMALL: usize = 100;
 
@@ -25,133 +28,90 @@ pub fn run_written(
     bytes: usize,
 ) -> io::Result<()> {
     starts::prepare(image, map, group);
+    let mut report = Report::new(out);
     let mut text = outputs::fresh();
-    let tally = take_written(out, image, map, group, bytes, &mut text)?;
-    let title = written::write(&mut text, group, 0, 0);
-    tallies::print(out, &text, title.bytes, tally)
-}
-
-fn take_written(
-    out: Stdout,
-    image: &Image,
-    map: &Lists,
-    group: usize,
-    bytes: usize,
-    text: &mut Output,
-) -> io::Result<Tally> {
-    let mut tally = tallies::none();
-    for k in 0..TEXTS * (bytes % 257) {
-        let which = k.checked_div(bytes).unwrap_or(0).wrapping_add(1);
-        let sheet = written::write(text, group, which, k.checked_rem(bytes).unwrap_or(0));
-        if sheet.bytes != sheets::NO_TEXT {
-            let next = takings::tried(out, image, map, text, sheet, tally)?;
-            tally = next;
+    for i in 1..=TEXTS {
+        for byte in 0..bytes {
+            let sheet = written::write(&mut text, group, i, byte);
+            if sheet.bytes != sheets::NO_TEXT {
+                takings::tried(&mut report, image, map, &text, sheet)?;
+            }
         }
     }
-    Ok(tally)
+    let title = written::write(&mut text, group, 0, 0);
+    let title = text.get(..title.bytes).unwrap_or(b"");
+    tallies::print(&mut report, str::from_utf8(title).unwrap_or(""))
+}
+
+// Takes small texts, cut short at each byte.
+pub fn run_cut(out: Stdout, image: &mut Image, map: &mut Lists) -> io::Result<()> {
+    starts::prepare(image, map, written::SMALL);
+    let mut report = Report::new(out);
+    let mut text = outputs::fresh();
+    for i in 1..=SMALL_TEXTS {
+        let n = written::write(&mut text, written::SMALL, i, 0).bytes;
+        if n < SMALL {
+            for end in 0..n {
+                takings::tried(&mut report, image, map, &text, sheets::any(end))?;
+            }
+        }
+    }
+    tallies::print(&mut report, "cut short")
 }
 
 // The ways in which a byte is changed.
-pub const WAYS: usize = 10;
+const WAYS: usize = 10;
 
-// Takes small texts, with each byte changed in so many ways; where there is one, cut short at each byte.
-pub fn run_small(out: Stdout, image: &mut Image, map: &mut Lists, ways: usize) -> io::Result<()> {
+// Takes small texts, with each byte changed in each way.
+pub fn run_changed(out: Stdout, image: &mut Image, map: &mut Lists) -> io::Result<()> {
     starts::prepare(image, map, written::SMALL);
-    let mut tally = tallies::none();
-    for i in 1..8usize {
-        let counted = take_small(out, image, map, i, ways, tally)?;
-        tally = counted;
-    }
-    if ways == WAYS {
-        tallies::print_named(out, b"one byte changed", tally)
-    } else {
-        tallies::print_named(out, b"cut short", tally)
-    }
-}
-
-fn take_small(
-    out: Stdout,
-    image: &Image,
-    map: &Lists,
-    i: usize,
-    ways: usize,
-    tally: Tally,
-) -> io::Result<Tally> {
+    let mut report = Report::new(out);
     let mut text = outputs::fresh();
-    let n = written::write(&mut text, written::SMALL, i, 0).bytes;
-    let mut after = tally;
-    for k in 0..SMALL * WAYS {
-        if n < SMALL && k.checked_div(ways).unwrap_or(0) < n {
-            let counted = take_altered(out, image, map, &text, n, ways, k, after)?;
-            after = counted;
+    for i in 1..=SMALL_TEXTS {
+        let n = written::write(&mut text, written::SMALL, i, 0).bytes;
+        if n < SMALL {
+            for k in 0..n * WAYS {
+                let copy = changed(&text, k / WAYS, k % WAYS);
+                takings::tried(&mut report, image, map, &copy, sheets::any(n))?;
+            }
         }
     }
-    Ok(after)
+    tallies::print(&mut report, "one byte changed")
 }
 
-fn take_altered(
-    out: Stdout,
-    image: &Image,
-    map: &Lists,
-    text: &Output,
-    n: usize,
-    ways: usize,
-    k: usize,
-    tally: Tally,
-) -> io::Result<Tally> {
-    if ways != WAYS {
-        return takings::tried(out, image, map, text, sheets::any(k), tally);
-    }
+// A text with a byte changed.
+fn changed(text: &Output, at: usize, way: usize) -> Output {
     let mut copy = *text;
-    change(&mut copy, k / WAYS, k % WAYS);
-    takings::tried(out, image, map, &copy, sheets::any(n), tally)
-}
-
-fn change(text: &mut Output, at: usize, way: usize) {
-    if at < outputs::ALL {
-        let byte = match way {
-            6 => 34,
-            7 => 44,
-            8 => 13,
-            9 => 10,
-            _ => bytes::changed(wide(text[at]), at, way),
+    if let Some(byte) = copy.get_mut(at) {
+        *byte = match way {
+            6 => b'"',
+            7 => b',',
+            8 => b'\r',
+            9 => b'\n',
+            _ => (bytes::changed(usize::from(*byte), at, way) % 256) as u8,
         };
-        text[at] = (byte % 256) as u8;
     }
-}
-
-fn wide(x: u8) -> usize {
-    x as usize
+    copy
 }
 
 // Takes texts of many names, one after the other, with deletes among them.
 pub fn run_names(out: Stdout, image: &mut Image, map: &mut Lists) -> io::Result<()> {
-    let mut tally = tallies::none();
+    let mut report = Report::<Tally>::new(out);
     for i in 0..names::STEPS {
-        let counted = take_names(out, image, map, i, tally)?;
-        tally = counted;
+        let step = names::at(i);
+        if step.way == names::DELETED {
+            let done = starts::free(image, map, step);
+            report.tally.mismatches.add_if(!done);
+        } else {
+            if step.way == names::ON_EMPTY {
+                starts::empty(image, map);
+            }
+            let mut text = outputs::fresh();
+            let sheet = names::write(&mut text, step);
+            takings::made(&mut report, image, map, &text, sheet)?;
+        }
     }
-    tallies::print_named(out, b"many names", tally)
-}
-
-fn take_names(
-    out: Stdout,
-    image: &mut Image,
-    map: &mut Lists,
-    i: usize,
-    tally: Tally,
-) -> io::Result<Tally> {
-    let step = names::at(i);
-    if step.way == names::DELETED {
-        let done = starts::free(image, map, step);
-        return Ok(tallies::more(tally, tallies::MISMATCHES, !done as usize));
-    }
-    if step.way == names::ON_EMPTY {
-        starts::empty(image, map);
-    }
-    let mut text = outputs::fresh();
-    let sheet = names::write(&mut text, step);
-    takings::made(out, image, map, &text, sheet, tally)
+    tallies::print(&mut report, "many names")
 }
 
 // How many texts are drawn, and how many of them are taken by one table.
@@ -161,32 +121,21 @@ const BY_ONE: usize = 40;
 
 // Takes drawn texts one after the other, with the table emptied now and then.
 pub fn run_drawn(out: Stdout, image: &mut Image, map: &mut Lists, changed: bool) -> io::Result<()> {
-    let mut tally = tallies::none();
+    let mut report = Report::new(out);
     let mut seed = numbers::SEED;
     for i in 0..DRAWN {
         if i % BY_ONE == 0 {
             starts::empty(image, map);
         }
         seed = numbers::next(seed);
-        let counted = take_drawn(out, image, map, seed, changed, tally)?;
-        tally = counted;
+        let mut text = outputs::fresh();
+        let sheet = drawn::write(&mut text, seed, changed);
+        takings::made(&mut report, image, map, &text, sheet)?;
     }
-    if changed {
-        tallies::print_named(out, b"drawn, one byte changed", tally)
+    let title = if changed {
+        "drawn, one byte changed"
     } else {
-        tallies::print_named(out, b"drawn", tally)
-    }
-}
-
-fn take_drawn(
-    out: Stdout,
-    image: &mut Image,
-    map: &mut Lists,
-    seed: u64,
-    changed: bool,
-    tally: Tally,
-) -> io::Result<Tally> {
-    let mut text = outputs::fresh();
-    let sheet = drawn::write(&mut text, seed, changed);
-    takings::made(out, image, map, &text, sheet, tally)
+        "drawn"
+    };
+    tallies::print(&mut report, title)
 }

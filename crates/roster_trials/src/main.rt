@@ -24,8 +24,8 @@ fn main(rt: HostRuntime) -> io::Result<()> {
         groups::run_written(out, &mut image, &mut map, group, 1)?;
     }
     groups::run_written(out, &mut image, &mut map, written::ANY_BYTE, 256)?;
-    groups::run_small(out, &mut image, &mut map, 1)?;
-    groups::run_small(out, &mut image, &mut map, groups::WAYS)?;
+    groups::run_cut(out, &mut image, &mut map)?;
+    groups::run_changed(out, &mut image, &mut map)?;
     groups::run_names(out, &mut image, &mut map)?;
     groups::run_drawn(out, &mut image, &mut map, false)?;
     groups::run_drawn(out, &mut image, &mut map, true)?;

@@ -1,5 +1,6 @@
 // The memory that the groups start from, with the map of it.
 use crate::takings;
+use comparisons::Request;
 use images::memory::Image;
 use images::outputs;
 use plainmap::lists::Lists;
@@ -9,7 +10,7 @@ use sheets::{names, written};
 
 // Empties an index and a map.
 pub fn empty(image: &mut Image, map: &mut Lists) {
-    rounds::calls::make(image, Call::Layout, b"", 0);
+    rounds::calls::make(image, Request::bare(Call::Layout));
     plainmap::clear(map, 512, 64);
 }
 

@@ -1,100 +1,94 @@
 // Takings of a roster, each compared with the text read apart.
 use crate::tallies::Tally;
 use crate::{calls, tallies};
+use comparisons::Request;
 use images::memory::Image;
 use images::outputs::Output;
 use images::packing;
 use plainmap::lists::Lists;
 use readings::{machine, values};
-use reports::faults;
+use reports::Report;
+use reports::faults::{Fault, ensure};
 use rounds::states;
 use samples::calls::Call;
 use samples::shapes::Label;
 use sheets::Sheet;
 use std::io;
-use std::io::Stdout;
 
 // Takes a text, and compares the answer and what is left, past the lengths lent too; counts it.
 pub fn made(
-    out: Stdout,
+    report: &mut Report<Tally>,
     image: &mut Image,
     map: &mut Lists,
     text: &Output,
     sheet: Sheet,
-    tally: Tally,
-) -> io::Result<Tally> {
+) -> io::Result<()> {
     let found = *image;
     let due = readings::judge(image, text, sheet.bytes, map);
     let said = calls::take(image, text, sheet.bytes);
-    let mut fault = said_fault(sheet, due, said);
-    if fault == 0 {
-        fault = left_fault(&found, image, map, text, sheet.bytes, said);
+    let agrees = match compare_said(sheet, due, said) {
+        Ok(()) => compare_left(&found, image, map, text, sheet.bytes, said),
+        Err(fault) => Err(fault),
+    };
+    report.tally.count(said, entered(said), agrees.is_ok());
+    match agrees {
+        Ok(()) => Ok(()),
+        Err(fault) => tallies::print_mismatch(report, text, sheet.bytes, due, said, fault),
     }
-    if fault > 0 {
-        tallies::print_mismatch(out, text, sheet.bytes, due, said, fault)?;
-    }
-    Ok(tallies::count(tally, said, entered(said), fault))
 }
 
 // The same on a copy of the memory and the map.
 pub fn tried(
-    out: Stdout,
+    report: &mut Report<Tally>,
     image: &Image,
     map: &Lists,
     text: &Output,
     sheet: Sheet,
-    tally: Tally,
-) -> io::Result<Tally> {
+) -> io::Result<()> {
     let mut copy = *image;
     let mut other = *map;
-    made(out, &mut copy, &mut other, text, sheet, tally)
+    made(report, &mut copy, &mut other, text, sheet)
 }
 
-// The fault of an answer beside the one that is due, and beside what is written by the text.
-fn said_fault(sheet: Sheet, due: usize, said: usize) -> usize {
-    if said != due {
-        return faults::ANSWER;
-    }
-    if (sheet.refusal != sheets::ANY) & (said != readings::answer(sheet.records, sheet.refusal)) {
-        return faults::CASE;
-    }
-    0
+// Compares an answer with the one that is due, and with what is written by the text.
+fn compare_said(sheet: Sheet, due: usize, said: usize) -> Result<(), Fault> {
+    ensure(said == due, Fault::Answer)?;
+    ensure(
+        sheet.refusal == sheets::ANY || said == readings::answer(sheet.records, sheet.refusal),
+        Fault::Sheet,
+    )
 }
 
 // How many records went in, by the answer: all, or those before the one that is refused.
 fn entered(said: usize) -> usize {
     if packing::kind(said) == readings::TAKEN {
-        return packing::one(said);
+        packing::one(said)
+    } else {
+        packing::other(said).saturating_sub(1)
     }
-    let record = packing::other(said);
-    if record == 0 {
-        return 0;
-    }
-    record - 1
 }
 
-// The fault of what is left: beside the public inserts of the records that went in, then beside the map.
-fn left_fault(
+// Compares what is left with what the public inserts of the records that went in leave, then with the map.
+fn compare_left(
     found: &Image,
     left: &Image,
     map: &Lists,
     text: &Output,
     n: usize,
     said: usize,
-) -> usize {
+) -> Result<(), Fault> {
     let mut due = *found;
     let mut other = *map;
     let records = entered(said);
-    if !each(&mut due, &mut other, text, n, records, Call::Insert) {
-        return faults::CHECK;
-    }
-    if due != *left {
-        return faults::MEMORY;
-    }
+    ensure(
+        each(&mut due, &mut other, text, n, records, Call::Insert),
+        Fault::Inserts,
+    )?;
+    ensure(due == *left, Fault::Memory)?;
     if records == 0 {
-        return 0;
+        return Ok(());
     }
-    states::map_fault(left, map)
+    states::compare_map(left, map)
 }
 
 // Makes the public call, an insert or a delete, for each of the first records of a text, so many, on an image's memory,
@@ -109,20 +103,24 @@ pub fn each(
 ) -> bool {
     let mut at = 0usize;
     let mut done = true;
-    for k in 0..records {
+    for _ in 0..records {
         let mut label = Label::EMPTY;
         let read = machine::read(text, n, at, &mut label);
-        let value = values::value(text, read);
-        done = updated(image, map, call, label.as_slice(), value) & done;
+        let request = Request {
+            call,
+            label: label.as_slice(),
+            number: values::value(text, read),
+        };
+        done = updated(image, map, request) && done;
         at = read.end;
     }
     done
 }
 
-fn updated(image: &mut Image, map: &mut Lists, call: Call, label: &[u8], value: usize) -> bool {
-    if call == Call::Delete {
-        let round = rounds::made(image, map, Call::Delete, label, 0);
-        return (round.fault == 0) & (round.kind == packing::UPDATED);
+fn updated(image: &mut Image, map: &mut Lists, request: Request) -> bool {
+    if request.call == Call::Delete {
+        let round = rounds::made(image, map, request);
+        return round.agrees.is_ok() && packing::kind(round.said) == packing::UPDATED;
     }
-    packing::kind(rounds::calls::make(image, Call::Insert, label, value)) == packing::UPDATED
+    packing::kind(rounds::calls::make(image, request)) == packing::UPDATED
 }

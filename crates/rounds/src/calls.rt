@@ -1,51 +1,67 @@
 // The calls of the index on the memory that an image holds, lent at the lengths that it says.
-use crate::{hub, page};
+use crate::indexes::{Hub, Index, Page};
+use comparisons::Request;
 use images::memory::Image;
 use images::packing;
 use samples::calls::Call;
 
-// Makes a call on a label, with a value, a charge or a slot, on an image's memory; the answer in one number.
-pub fn make(image: &mut Image, call: Call, label: &[u8], number: usize) -> usize {
-    match call {
-        Call::Listing => list(image),
-        Call::View => put_view(image, number),
-        _ => on_memory(image, call, label, number),
+// Makes a call on an image's memory; the answer in one number.
+pub fn make(image: &mut Image, request: Request) -> usize {
+    if image.is_page() {
+        make_on::<Page>(image, request)
+    } else {
+        make_on::<Hub>(image, request)
     }
 }
 
-fn on_memory(image: &mut Image, call: Call, label: &[u8], number: usize) -> usize {
-    let of_page = image.is_page();
-    match image.table_and_store_mut() {
-        Some((table, store)) if of_page => page::on(table, store, call, label, number),
-        Some((table, store)) => hub::on(table, store, call, label, number),
-        None => 0,
+fn make_on<I: Index>(image: &mut Image, request: Request) -> usize {
+    match request.call {
+        Call::Listing => list::<I>(image),
+        Call::View => put_view::<I>(image, request.number),
+        _ => match image.table_and_store_mut() {
+            Some((table, store)) => on_label::<I>(table, store, request),
+            None => 0,
+        },
+    }
+}
+
+// Makes any other call but a save and a load.
+fn on_label<I: Index>(table: &mut [u16], store: &mut [u8], request: Request) -> usize {
+    let Request {
+        call,
+        label,
+        number,
+    } = request;
+    let value = (number % 65536) as u16;
+    match call {
+        Call::Search => I::search(table, store, label),
+        Call::Check => I::check(table, store),
+        Call::Insert => I::insert(table, store, label, value),
+        Call::Delete => I::delete(table, store, label),
+        Call::Layout => I::layout(table, store),
+        // The hub's index alone has it.
+        Call::SetCharge => exports::strap_set_charge(table, store, label, value),
+        _ => I::view_check(table, store, number),
     }
 }
 
 // Makes a listing into the first words of the list.
-fn list(image: &mut Image) -> usize {
+fn list<I: Index>(image: &mut Image) -> usize {
     let mut list = image.list;
     let said = match (image.table_and_store(), list.get_mut(..image.lent.room)) {
-        (Some((table, store)), Some(list)) => listing(image.is_page(), table, store, list),
+        (Some((table, store)), Some(list)) => I::listing(table, store, list),
         _ => 0,
     };
     image.list = list;
     said
 }
 
-fn listing(of_page: bool, table: &[u16], store: &[u8], list: &mut [u16]) -> usize {
-    if of_page {
-        return page_exports::strap_page_listing(table, store, list);
-    }
-    exports::strap_listing(table, store, list)
-}
-
 // Puts the view's bytes, which come from the index itself, into the list.
-fn put_view(image: &mut Image, slot: usize) -> usize {
+fn put_view<I: Index>(image: &mut Image, slot: usize) -> usize {
     let mut list = image.list;
     let said = match image.table_and_store() {
         Some((table, store)) => {
-            let part = view(image.is_page(), table, store, slot);
+            let part = I::view(table, store, slot);
             for (word, byte) in list.iter_mut().zip(part.iter()) {
                 *word = u16::from(*byte);
             }
@@ -55,11 +71,4 @@ fn put_view(image: &mut Image, slot: usize) -> usize {
     };
     image.list = list;
     said
-}
-
-pub fn view<'a>(of_page: bool, table: &[u16], store: &'a [u8], slot: usize) -> &'a [u8] {
-    if of_page {
-        return index::page::view(table, store, slot);
-    }
-    index::view(table, store, slot)
 }

@@ -2,50 +2,42 @@
 #![tactic(auto)]
 
 pub mod calls;
-mod hub;
+mod indexes;
 pub mod loading;
-mod page;
 pub mod saving;
 pub mod states;
 
-use comparisons::{answers, judged};
+use comparisons::{Request, answers, judged};
 use images::memory::Image;
-use images::packing;
 use plainmap::lists::Lists;
 use reports::Round;
-use samples::calls::Call;
 
-// Makes a search or an update on a sound table and the map, with a value or a charge, and compares the answer and what
-// is left.
-pub fn made(image: &mut Image, map: &mut Lists, call: Call, label: &[u8], number: usize) -> Round {
+// Makes a search or an update on a sound table and the map, and compares the answer and what is left.
+pub fn made(image: &mut Image, map: &mut Lists, request: Request) -> Round {
     let found = *image;
-    let shared = plainmap::most_shared(map, label);
-    let said = calls::make(image, call, label, number);
-    let plain = answers::on_map(map, call, label, number);
-    let mut fault = answers::fault(&found, call, label, number, shared, said, plain);
-    if fault == 0 {
-        fault = states::fault(&found, image, map, call, said);
-    }
+    let shared = plainmap::most_shared(map, request.label);
+    let said = calls::make(image, request);
+    let plain = answers::on_map(map, request);
+    let answered = answers::compare(&found, request, shared, said, plain);
     Round {
-        fault: fault,
-        kind: packing::kind(said),
-        refusal: packing::refusal(said),
-        reached: answers::reached(&found, label, shared, said),
-        written: 0,
+        agrees: match answered {
+            Ok(()) => states::compare(&found, image, map, request.call, said),
+            Err(fault) => Err(fault),
+        },
+        said,
+        reached: answers::reached(&found, request.label, shared, said),
     }
 }
 
 // Makes any call on any memory, which stays, and compares the answer and what is left with the second writing's; where
 // the memory is sound, a search's and a charge call's answer also with the map's, and an update's counts with the bytes
 // shared. Whether its search reached the bound is not told.
-pub fn tried(image: &Image, call: Call, label: &[u8], number: usize) -> Round {
+pub fn tried(image: &Image, request: Request) -> Round {
     let mut left = *image;
-    let said = calls::make(&mut left, call, label, number);
+    let said = calls::make(&mut left, request);
     Round {
-        fault: judged::fault(image, &left, call, label, number, said),
-        kind: packing::kind(said),
-        refusal: packing::refusal(said),
+        agrees: judged::compare(image, &left, request, said),
+        said,
         reached: false,
-        written: 0,
     }
 }

@@ -1,16 +1,15 @@
 // Loads of a file into the memory that an image holds, compared with the file read apart, and with the table and store
 // that the public inserts of its labels leave.
-use crate::{hub, states};
+use crate::states;
 use comparisons::loads;
 use images::memory::Image;
 use images::outputs::Output;
 use images::packing;
 use plainmap::lists::Lists;
 use plainmap::{BYTES, lists};
-use reports::{Round, faults};
-use samples::calls::Call;
+use reports::Round;
+use reports::faults::{Fault, ensure};
 use samples::shapes::Label;
-use std::num::wrapping_add_usize;
 
 // Makes a load of the first bytes of a file, so many, and compares the answer and what is left, past the lengths lent
 // too. The map becomes that of the labels that are to be held, an empty one where the load is to be refused.
@@ -19,38 +18,27 @@ pub fn made(image: &mut Image, file: &Output, n: usize, map: &mut Lists) -> Roun
     let due = loads::judge(image, file, n, map);
     let said = make(image, file, n);
     Round {
-        fault: fault(&found, image, map, due, said),
-        kind: packing::kind(said),
-        refusal: packing::refusal(said),
+        agrees: compare(&found, image, map, due, said),
+        said,
         reached: false,
-        written: 0,
     }
 }
 
-// The fault of an answer beside the one that is due, or of what is left: after a refusal what was found.
-fn fault(found: &Image, left: &Image, map: &Lists, due: usize, said: usize) -> usize {
-    if said != due {
-        return faults::ANSWER;
-    }
+// Compares an answer with the one that is due, and what is left: after a refusal what was found.
+fn compare(found: &Image, left: &Image, map: &Lists, due: usize, said: usize) -> Result<(), Fault> {
+    ensure(said == due, Fault::Answer)?;
     if packing::kind(due) == packing::LOADED {
-        return loaded_fault(found, left, map);
+        return compare_loaded(found, left, map);
     }
-    if found == left {
-        return 0;
-    }
-    faults::MEMORY
+    ensure(found == left, Fault::Memory)
 }
 
-// The fault of what a load left: beside the inserts into an empty table, then beside the map.
-fn loaded_fault(found: &Image, left: &Image, map: &Lists) -> usize {
+// Compares what a load left with what the inserts into an empty table leave, then with the map.
+fn compare_loaded(found: &Image, left: &Image, map: &Lists) -> Result<(), Fault> {
     let mut due = *found;
-    if !insert_all(&mut due, map) {
-        return faults::CASE;
-    }
-    if due == *left {
-        return states::map_fault(left, map);
-    }
-    faults::MEMORY
+    ensure(insert_all(&mut due, map), Fault::Inserts)?;
+    ensure(due == *left, Fault::Memory)?;
+    states::compare_map(left, map)
 }
 
 // Makes a load of the first bytes of a file.
@@ -70,37 +58,25 @@ fn insert_all(image: &mut Image, map: &Lists) -> bool {
 }
 
 fn fill(table: &mut [u16], store: &mut [u8], map: &Lists) -> bool {
-    let said = hub::on(table, store, Call::Layout, b"", 0);
-    insert_each(table, store, map) & (said == packing::plain(packing::DONE, 0))
-}
-
-fn insert_each(table: &mut [u16], store: &mut [u8], map: &Lists) -> bool {
-    let mut done = true;
-    let n = plainmap::held(map);
-    for i in 0..n {
-        done = insert(table, store, map, i) & done;
+    let mut done = exports::strap_layout(table, store) == packing::plain(packing::DONE, 0);
+    for i in 0..plainmap::held(map) {
+        done = insert(table, store, map, i.wrapping_add(1)) && done;
     }
     done
 }
 
-// Inserts the label that the map has in the slot after so many; whether it takes that slot.
-fn insert(table: &mut [u16], store: &mut [u8], map: &Lists, before: usize) -> bool {
-    let slot = wrapping_add_usize(before, 1);
-    let label = read_label(map, slot);
-    let value = plainmap::value_of(map, slot);
-    takes(table, store, label.as_slice(), value, slot)
+// Inserts the label that the map has in a slot; whether it takes that slot.
+fn insert(table: &mut [u16], store: &mut [u8], map: &Lists, slot: usize) -> bool {
+    let label = label_of(map, slot);
+    let value = (plainmap::value_of(map, slot) % 65536) as u16;
+    let said = exports::strap_insert(table, store, label.as_slice(), value);
+    packing::kind(said) == packing::UPDATED && packing::one(said) == slot
 }
 
-fn takes(table: &mut [u16], store: &mut [u8], label: &[u8], value: usize, slot: usize) -> bool {
-    let said = hub::on(table, store, Call::Insert, label, value);
-    (packing::kind(said) == packing::UPDATED) & (packing::one(said) == slot)
-}
-
-fn read_label(map: &Lists, slot: usize) -> Label {
+fn label_of(map: &Lists, slot: usize) -> Label {
     let mut label = Label::EMPTY;
     for j in 0..plainmap::length_of(map, slot) {
-        let byte = lists::get(map, wrapping_add_usize(BYTES, j), slot);
-        label.push((byte % 256) as u8);
+        label.push((lists::get(map, BYTES.wrapping_add(j), slot) % 256) as u8);
     }
     label
 }

@@ -2,10 +2,11 @@
 // and the image stays: what can differ is the output.
 use comparisons::saves;
 use images::memory::Image;
+use images::outputs;
 use images::outputs::Output;
-use images::{outputs, packing};
 use plainmap::lists::Lists;
-use reports::{Round, faults};
+use reports::Round;
+use reports::faults::Fault;
 
 // Makes a save into the first bytes of an output, so many, and compares the answer and the whole output.
 pub fn made(image: &Image, map: &Lists, room: usize) -> Round {
@@ -17,11 +18,9 @@ pub fn made(image: &Image, map: &Lists, room: usize) -> Round {
 pub fn into(image: &Image, map: &Lists, output: &mut Output, room: usize) -> Round {
     let said = make(image, output, room);
     Round {
-        fault: saves::fault(image, map, output, room, said),
-        kind: packing::kind(said),
-        refusal: packing::refusal(said),
+        agrees: saves::compare(image, map, output, room, said),
+        said,
         reached: false,
-        written: packing::written(said),
     }
 }
 
@@ -30,7 +29,7 @@ pub fn again(image: &Image, map: &Lists, before: &Output) -> Round {
     let mut output = outputs::fresh();
     let mut round = into(image, map, &mut output, outputs::ALL);
     if *before != output {
-        round.fault = faults::OUTPUT;
+        round.agrees = Err(Fault::Output);
     }
     round
 }

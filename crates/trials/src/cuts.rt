@@ -4,11 +4,10 @@ use images::memory::Image;
 use images::outputs;
 use images::outputs::Output;
 use plainmap::files;
-use plainmap::lists::Lists;
 use plans::bytes;
 use plans::planned::ANY_REFUSAL;
-use reports::tallies;
-use reports::tallies::{CHANGES, Tally};
+use reports::Report;
+use reports::tallies::{Group, Tally};
 use samples::numbers;
 use samples::shapes::Shape;
 use std::io;
@@ -16,9 +15,6 @@ use std::io::Stdout;
 
 // Makes the loads for each shape, and prints two lines for each; the hub's index alone has them.
 pub fn run(out: Stdout, image: &Image) -> io::Result<()> {
-    if image.is_page() {
-        return Ok(());
-    }
     for i in 0..bytes::SHAPES {
         run_shape(out, image, bytes::shape(i))?;
     }
@@ -28,10 +24,20 @@ pub fn run(out: Stdout, image: &Image) -> io::Result<()> {
 fn run_shape(out: Stdout, image: &Image, shape: Shape) -> io::Result<()> {
     let mut file = outputs::fresh();
     let n = write(&mut file, shape);
-    let cut = cut_short(out, image, &file, n)?;
-    tallies::print_file_loads(out, false, shape, 0, cut)?;
-    let changed = change_each(out, image, &file, n)?;
-    tallies::print_file_loads(out, false, shape, 1, changed)
+    let mut cut = Report::new(out);
+    cut_short(&mut cut, image, &file, n)?;
+    cut.print_file_loads(group(shape, "cut short"))?;
+    let mut changed = Report::new(out);
+    change_each(&mut changed, image, &file, n)?;
+    changed.print_file_loads(group(shape, "one byte"))
+}
+
+fn group(shape: Shape, name: &str) -> Group<'_> {
+    Group {
+        page: false,
+        shape,
+        name,
+    }
 }
 
 // Writes the file of the first labels of a shape; its length.
@@ -39,64 +45,37 @@ fn write(file: &mut Output, shape: Shape) -> usize {
     let mut map = [0u16; 35910];
     plainmap::clear(&mut map, 512, 64);
     for k in 0..bytes::LABELS {
-        hold(&mut map, shape, k);
+        let value = numbers::value(shape as usize, k);
+        plainmap::insert(&mut map, shape.label(64, k).as_slice(), value);
     }
     files::write(file, &map)
 }
 
-fn hold(map: &mut Lists, shape: Shape, k: usize) {
-    let value = numbers::value(shape as usize, k);
-    plainmap::insert(map, shape.label(64, k).as_slice(), value);
-}
-
 // Loads the file at each length up to its own, and one more.
-fn cut_short(out: Stdout, image: &Image, file: &Output, n: usize) -> io::Result<Tally> {
-    let mut tally = tallies::none();
-    let end = std::num::wrapping_add_usize(n, 2);
-    for i in 0..end {
-        let changed = tallies::one_more_if(tally, CHANGES, i != n);
-        let counted = loading::tried(out, image, file, i, ANY_REFUSAL, changed)?;
-        tally = counted;
+fn cut_short(report: &mut Report<Tally>, image: &Image, file: &Output, n: usize) -> io::Result<()> {
+    for end in 0..n.wrapping_add(2) {
+        report.tally.changes.add_if(end != n);
+        loading::tried(report, image, file, end, ANY_REFUSAL)?;
     }
-    Ok(tally)
+    Ok(())
 }
 
-// Loads the file with each byte changed in each way.
-fn change_each(out: Stdout, image: &Image, file: &Output, n: usize) -> io::Result<Tally> {
-    let mut tally = tallies::none();
-    let end = bytes::WAYS * (n % outputs::ALL);
-    for k in 0..end {
-        let counted = change(out, image, file, n, k, tally)?;
-        tally = counted;
-    }
-    Ok(tally)
-}
-
-// Loads the file with one byte changed, where it is another then.
-fn change(
-    out: Stdout,
+// Loads the file with each byte changed in each way, where it is another then.
+fn change_each(
+    report: &mut Report<Tally>,
     image: &Image,
     file: &Output,
     n: usize,
-    k: usize,
-    tally: Tally,
-) -> io::Result<Tally> {
-    let at = k / bytes::WAYS;
-    let mut copy = *file;
-    put(&mut copy, at, k % bytes::WAYS);
-    if *file == copy {
-        return Ok(tally);
+) -> io::Result<()> {
+    for at in 0..n.min(outputs::ALL) {
+        for way in 0..bytes::WAYS {
+            let mut copy = *file;
+            copy[at] = (bytes::changed(usize::from(file[at]), at, way) % 256) as u8;
+            if copy != *file {
+                report.tally.changes.add(1);
+                loading::tried(report, image, &copy, n, ANY_REFUSAL)?;
+            }
+        }
     }
-    let changed = tallies::one_more(tally, CHANGES);
-    loading::tried(out, image, &copy, n, ANY_REFUSAL, changed)
-}
-
-fn put(file: &mut Output, at: usize, way: usize) {
-    if at < outputs::ALL {
-        file[at] = (bytes::changed(wide(file[at]), at, way) % 256) as u8;
-    }
-}
-
-fn wide(x: u8) -> usize {
-    x as usize
+    Ok(())
 }

@@ -2,161 +2,132 @@
 // and of loads of these files.
 use crate::{loading, saving, sequences};
 use images::memory::Image;
-use images::outputs;
-use images::outputs::Output;
+use images::{outputs, packing};
 use plainmap::lists::Lists;
 use plans::files::Edge;
 use plans::{files, lengths, planned};
-use reports::tallies::Tally;
-use reports::{Round, faults, tallies};
+use reports::faults::Fault;
+use reports::tallies::{Group, Tally};
+use reports::{Report, Round};
 use samples::calls::Call;
 use samples::charges;
-use samples::shapes::Shape;
 use std::io;
 use std::io::Stdout;
 
+// The groups' names.
+const NAMES: [&str; files::GROUPS] = ["empty", "values", "values", "counts", "full", "charged"];
+
 // Makes the tables of each group, and prints two lines for each; the hub's index alone has them.
 pub fn run(out: Stdout, image: &mut Image, map: &mut Lists) -> io::Result<()> {
-    if image.is_page() {
-        return Ok(());
-    }
-    for group in 0..files::GROUPS {
-        run_group(out, image, map, group)?;
+    for (group, name) in NAMES.iter().enumerate() {
+        run_group(out, image, map, group, name)?;
     }
     Ok(())
 }
 
-fn run_group(out: Stdout, image: &mut Image, map: &mut Lists, group: usize) -> io::Result<()> {
-    let mut tally = tallies::none();
-    let mut loaded = tallies::none();
-    let n = files::tables(group);
-    for i in 0..n {
-        let counted = table(out, image, map, files::table(group, i), tally)?;
-        tally = counted;
-        loading::at_edge(out, image, map, &mut loaded)?;
-    }
-    print(out, files::shape(group), group, tally, loaded)
-}
-
-fn print(out: Stdout, shape: Shape, group: usize, saved: Tally, loaded: Tally) -> io::Result<()> {
-    tallies::print_edge_saves(out, shape, group, saved)?;
-    tallies::print_edge_loads(out, shape, group, loaded)
-}
-
-// Makes a table, and saves it into an output of each length.
-fn table(
+fn run_group(
     out: Stdout,
     image: &mut Image,
     map: &mut Lists,
-    edge: Edge,
-    tally: Tally,
-) -> io::Result<Tally> {
-    sequences::empty(image, map);
-    let filled = each(out, image, map, Call::Insert, edge, tally)?;
-    let then = edge.then;
-    let ended = match then {
-        Call::Delete => each(out, image, map, Call::Delete, edge, filled)?,
-        Call::SetCharge => charge_each(out, image, map, edge, filled)?,
-        _ => filled,
+    group: usize,
+    name: &str,
+) -> io::Result<()> {
+    let mut saves = Report::new(out);
+    let mut loads = Report::new(out);
+    for i in 0..files::tables(group) {
+        make_table(&mut saves, image, map, files::table(group, i))?;
+        loading::at_edge(&mut loads, image, map)?;
+    }
+    let line = Group {
+        page: false,
+        shape: files::shape(group),
+        name,
     };
-    save_all(out, image, map, edge.bytes, ended)
+    saves.print_edge_saves(line)?;
+    loads.print_edge_loads(line)
+}
+
+// Makes a table, and saves it into an output of each length.
+fn make_table(
+    report: &mut Report<Tally>,
+    image: &mut Image,
+    map: &mut Lists,
+    edge: Edge,
+) -> io::Result<()> {
+    sequences::empty(image, map);
+    call_each(report, image, map, Call::Insert, edge)?;
+    match edge.then {
+        Call::Delete => call_each(report, image, map, Call::Delete, edge)?,
+        Call::SetCharge => charge_each(report, image, map, edge)?,
+        _ => {}
+    }
+    for i in 0..lengths::OUTPUTS {
+        let room = lengths::output(i, edge.bytes);
+        let round = rounds::saving::made(image, map, room);
+        saving::count(report, as_named(round, edge.bytes, room))?;
+    }
+    Ok(())
 }
 
 // Makes a call on each label of a table.
-fn each(
-    out: Stdout,
+fn call_each(
+    report: &mut Report<Tally>,
     image: &mut Image,
     map: &mut Lists,
     call: Call,
     edge: Edge,
-    tally: Tally,
-) -> io::Result<Tally> {
-    let mut after = tally;
-    let n = edge.labels;
-    for k in 0..n {
-        let counted = on_label(out, image, map, call, edge, k, after)?;
-        after = counted;
+) -> io::Result<()> {
+    for k in 0..edge.labels {
+        on_label(report, image, map, call, edge, k)?;
     }
-    Ok(after)
+    Ok(())
 }
 
 // Makes a call on label `k` of a table, with its value or a charge of its own, that is not to be refused.
 fn on_label(
-    out: Stdout,
+    report: &mut Report<Tally>,
     image: &mut Image,
     map: &mut Lists,
     call: Call,
     edge: Edge,
     k: usize,
-    tally: Tally,
-) -> io::Result<Tally> {
-    let mut number = edge.value;
-    if call == Call::SetCharge {
-        number = charges::own(k);
-    }
+) -> io::Result<()> {
+    let number = if call == Call::SetCharge {
+        charges::own(k)
+    } else {
+        edge.value
+    };
     let planned = planned::named(call, edge.shape, k, 0);
-    sequences::numbered(out, image, map, planned, number, tally)
+    sequences::numbered(report, image, map, planned, number)
 }
 
 // Gives each label a charge, and saves the table after each: the output is as it was before all.
 fn charge_each(
-    out: Stdout,
+    report: &mut Report<Tally>,
     image: &mut Image,
     map: &mut Lists,
     edge: Edge,
-    tally: Tally,
-) -> io::Result<Tally> {
+) -> io::Result<()> {
     let mut before = outputs::fresh();
     let round = rounds::saving::into(image, map, &mut before, outputs::ALL);
-    let mut after = saving::count(out, round, tally)?;
-    let n = edge.labels;
-    for k in 0..n {
-        let counted = charge(out, image, map, edge, k, &before, after)?;
-        after = counted;
+    saving::count(report, round)?;
+    for k in 0..edge.labels {
+        on_label(report, image, map, Call::SetCharge, edge, k)?;
+        saving::count(report, rounds::saving::again(image, map, &before))?;
     }
-    Ok(after)
+    Ok(())
 }
 
-fn charge(
-    out: Stdout,
-    image: &mut Image,
-    map: &mut Lists,
-    edge: Edge,
-    k: usize,
-    before: &Output,
-    tally: Tally,
-) -> io::Result<Tally> {
-    let charged = on_label(out, image, map, Call::SetCharge, edge, k, tally)?;
-    saving::count(out, rounds::saving::again(image, map, before), charged)
-}
-
-// Makes a save into an output of each length, where the file is to have so many bytes.
-fn save_all(
-    out: Stdout,
-    image: &Image,
-    map: &Lists,
-    bytes: usize,
-    tally: Tally,
-) -> io::Result<Tally> {
-    let mut after = tally;
-    for i in 0..lengths::OUTPUTS {
-        let room = lengths::output(i, bytes);
-        let round = as_named(rounds::saving::made(image, map, room), bytes, room);
-        let counted = saving::count(out, round, after)?;
-        after = counted;
-    }
-    Ok(after)
-}
-
-// A save with its fault, where it is not refused by 17 or does not write as many bytes as its file is to have.
+// A save of a file of so many bytes: where it is not refused by 17, or does not write them, that is its fault.
 fn as_named(round: Round, bytes: usize, room: usize) -> Round {
-    let mut named = round;
     if bytes > room {
-        if round.refusal != 17 {
-            named.fault = faults::CASE;
-        }
-    } else if round.written != bytes {
-        named.fault = faults::WRITTEN;
+        return sequences::as_named(round, 17);
     }
-    named
+    if packing::written(round.said) == bytes {
+        return round;
+    }
+    Round {
+        agrees: Err(Fault::Written),
+        ..round
+    }
 }

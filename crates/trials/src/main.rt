@@ -31,32 +31,27 @@ fn main(rt: HostRuntime) -> io::Result<()> {
 fn run_index(out: Stdout, sizes: Sizes) -> io::Result<()> {
     let mut image = Image::fresh(sizes);
     let mut map = [0u16; 35910];
-    run(out, &mut image, &mut map)?;
+    for group in 0..groups::GROUPS {
+        let plan = groups::plan_of(group, sizes.slots);
+        run_plan(out, &mut image, &mut map, plan)?;
+    }
     lent::run(out, &image)?;
-    edges::run(out, &image)?;
+    if sizes == Sizes::HUB {
+        edges::run(out, &image)?;
+    }
     saving::run_lent(out, &image)?;
     written_files::run_lent(out, &image)?;
-    file_edges::run(out, &mut image, &mut map)?;
-    run_files(out, &image)
-}
-
-// The groups of files that no table was saved as.
-fn run_files(out: Stdout, image: &Image) -> io::Result<()> {
-    cuts::run(out, image)?;
-    written_files::run(out, image)
-}
-
-fn run(out: Stdout, image: &mut Image, map: &mut Lists) -> io::Result<()> {
-    for group in 0..groups::GROUPS {
-        let plan = groups::plan_of(group, image.sizes.slots);
-        run_plan(out, image, map, plan)?;
+    if sizes == Sizes::HUB {
+        file_edges::run(out, &mut image, &mut map)?;
+        cuts::run(out, &image)?;
+        written_files::run(out, &image)?;
     }
     Ok(())
 }
 
 // A group, and the damaged memories of a table that it prepared; nothing where the index does not have its calls.
 fn run_plan(out: Stdout, image: &mut Image, map: &mut Lists, plan: Plan) -> io::Result<()> {
-    if groups::is_hubs(plan) & image.is_page() {
+    if groups::is_hubs(plan) && image.is_page() {
         return Ok(());
     }
     sequences::run(out, image, map, plan)?;

@@ -5,8 +5,8 @@ use images::memory::Image;
 use plainmap::files;
 use plainmap::lists::Lists;
 use plans::lengths;
-use reports::tallies::{CHANGES, Tally};
-use reports::{Round, tallies};
+use reports::tallies::{Group, Tally};
+use reports::{Report, Round};
 use samples::calls::Call;
 use samples::numbers;
 use samples::shapes::Shape;
@@ -17,83 +17,53 @@ use std::io::Stdout;
 const EVERY: usize = 16;
 
 // Makes a save after call `i` of a sequence, where it is its turn.
-pub fn after(
-    out: Stdout,
-    image: &Image,
-    map: &Lists,
-    i: usize,
-    tally: &mut Tally,
-) -> io::Result<()> {
-    if image.is_page() | (i % EVERY != EVERY - 1) {
+pub fn after(report: &mut Report<Tally>, image: &Image, map: &Lists, i: usize) -> io::Result<()> {
+    if image.is_page() || i % EVERY != EVERY - 1 {
         return Ok(());
     }
-    let counted = in_turn(out, image, map, i / EVERY, *tally)?;
-    *tally = counted;
-    Ok(())
+    in_turn(report, image, map, i / EVERY)
 }
 
 // Makes a save of changed memory, and counts the change.
-pub fn on_damaged(out: Stdout, image: &Image, seed: u64, tally: &mut Tally) -> io::Result<()> {
+pub fn on_damaged(report: &mut Report<Tally>, image: &Image, seed: u64) -> io::Result<()> {
     if image.is_page() {
         return Ok(());
     }
     let map = saves::map_of(image);
     let draw = numbers::mixed_seed(seed, Call::Save as usize);
-    let changed = tallies::one_more(*tally, CHANGES);
-    let counted = in_turn(
-        out,
-        image,
-        &map,
-        numbers::below(draw, lengths::TURNS),
-        changed,
-    )?;
-    *tally = counted;
-    Ok(())
+    report.tally.changes.add(1);
+    in_turn(report, image, &map, numbers::below(draw, lengths::TURNS))
 }
 
 // Makes a save into as many bytes as the map's file has, one less, one more, or all, in turn.
-fn in_turn(
-    out: Stdout,
-    image: &Image,
-    map: &Lists,
-    turn: usize,
-    tally: Tally,
-) -> io::Result<Tally> {
+fn in_turn(report: &mut Report<Tally>, image: &Image, map: &Lists, turn: usize) -> io::Result<()> {
     let room = lengths::output(turn % lengths::TURNS, files::length(map));
-    count(out, rounds::saving::made(image, map, room), tally)
+    count(report, rounds::saving::made(image, map, room))
 }
 
-// Counts a save, which moves no count of labels; where it has a fault it is printed.
-pub fn count(out: Stdout, round: Round, tally: Tally) -> io::Result<Tally> {
-    if round.fault > 0 {
-        tallies::print_mismatch(out, Call::Save, b"", round.fault)?;
-    }
-    Ok(tallies::count(tally, Call::Save, round, 0))
+// Counts a save, which moves no count of labels.
+pub fn count(report: &mut Report<Tally>, round: Round) -> io::Result<()> {
+    report.count(Call::Save, b"", round, 0)
 }
 
 // Makes saves of memory of each pair of lengths, into outputs of each length, and prints their line.
 pub fn run_lent(out: Stdout, image: &Image) -> io::Result<()> {
     let map = saves::map_of(image);
-    let tally = lend(out, image, &map)?;
-    tallies::print_refused_saves(out, image.is_page(), Shape::Roster, 1, tally)
-}
-
-fn lend(out: Stdout, image: &Image, map: &Lists) -> io::Result<Tally> {
-    let mut tally = tallies::none();
-    for k in 0..lengths::PAIRS * lengths::OUTPUTS {
-        let next = lent(out, image, map, k, tally)?;
-        tally = next;
+    let mut report = Report::<Tally>::new(out);
+    for pair in 0..lengths::PAIRS {
+        let mut copy = *image;
+        lengths::lend(&mut copy, pair);
+        if !copy.is_page() {
+            for i in 0..lengths::OUTPUTS {
+                let room = lengths::output(i, files::length(&map));
+                report.tally.changes.add_if(copy != *image);
+                count(&mut report, rounds::saving::made(&copy, &map, room))?;
+            }
+        }
     }
-    Ok(tally)
-}
-
-fn lent(out: Stdout, image: &Image, map: &Lists, k: usize, tally: Tally) -> io::Result<Tally> {
-    let mut copy = *image;
-    lengths::lend(&mut copy, k / lengths::OUTPUTS);
-    if copy.is_page() {
-        return Ok(tally);
-    }
-    let room = lengths::output(k % lengths::OUTPUTS, files::length(map));
-    let changed = tallies::one_more_if(tally, CHANGES, *image != copy);
-    count(out, rounds::saving::made(&copy, map, room), changed)
+    report.print_refused_saves(Group {
+        page: image.is_page(),
+        shape: Shape::Roster,
+        name: "other lengths",
+    })
 }

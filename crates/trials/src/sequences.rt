@@ -1,12 +1,15 @@
 // The groups of calls on sound tables, made and counted, and of the hub's with saves and loads among them.
 use crate::{loading, saving};
+use comparisons::Request;
 use images::memory::Image;
+use images::packing;
 use plainmap::lists::Lists;
 use plans::groups;
 use plans::groups::Plan;
 use plans::planned::{ANY_REFUSAL, Planned};
-use reports::tallies::Tally;
-use reports::{Round, faults, tallies};
+use reports::faults::Fault;
+use reports::tallies::{Group, Tally};
+use reports::{Report, Round};
 use samples::calls::Call;
 use samples::numbers;
 use std::io;
@@ -15,115 +18,91 @@ use std::io::Stdout;
 // Makes a group's calls on an empty index and map, and prints its line.
 pub fn run(out: Stdout, image: &mut Image, map: &mut Lists, plan: Plan) -> io::Result<()> {
     empty(image, map);
-    let mut saved = tallies::none();
-    let mut loaded = tallies::none();
-    let tally = made(out, image, map, plan, &mut saved, &mut loaded)?;
-    tallies::print_sequence(out, image.is_page(), plan.shape, plan.way, tally)?;
+    let mut report = Report::new(out);
+    let mut saves = Report::new(out);
+    let mut loads = Report::new(out);
+    let mut seed = numbers::SEED;
+    for i in 0..groups::calls(plan) {
+        seed = numbers::next(seed);
+        call(&mut report, image, map, groups::call(plan, i, seed))?;
+        seed = numbers::next(seed);
+        saving::after(&mut saves, image, map, i)?;
+        loading::after(&mut loads, image, map, i)?;
+    }
+    let group = Group {
+        page: image.is_page(),
+        shape: plan.shape,
+        name: name(plan.way),
+    };
+    report.print_sequence(group)?;
     if !image.is_page() {
-        tallies::print_saves(out, plan.shape, plan.way, saved)?;
-        tallies::print_loads(out, plan.shape, plan.way, loaded)?;
+        saves.print_saves(group)?;
+        loads.print_loads(group)?;
     }
     Ok(())
 }
 
+fn name(way: usize) -> &'static str {
+    match way {
+        groups::CASE => "case 11",
+        groups::IN_ORDER => "in order",
+        groups::REVERSED => "reversed",
+        groups::STEPPED => "stepped",
+        groups::DRAWN => "drawn",
+        groups::PREPARED => "prepared",
+        groups::RESPELLED => "respelled",
+        groups::CHARGES_DRAWN => "charges drawn",
+        groups::CHARGED => "charged",
+        _ => "charge edges",
+    }
+}
+
 // Empties an index and a map.
 pub fn empty(image: &mut Image, map: &mut Lists) {
-    rounds::calls::make(image, Call::Layout, b"", 0);
+    rounds::calls::make(image, Request::bare(Call::Layout));
     plainmap::clear(map, image.sizes.slots, image.sizes.width);
 }
 
-fn made(
-    out: Stdout,
-    image: &mut Image,
-    map: &mut Lists,
-    plan: Plan,
-    saved: &mut Tally,
-    loaded: &mut Tally,
-) -> io::Result<Tally> {
-    let mut tally = tallies::none();
-    let mut seed = numbers::SEED;
-    let n = groups::calls(plan);
-    for i in 0..n {
-        seed = numbers::next(seed);
-        let counted = call(out, image, map, groups::call(plan, i, seed), tally)?;
-        tally = counted;
-        seed = numbers::next(seed);
-        after(out, image, map, i, saved, loaded)?;
-    }
-    Ok(tally)
-}
-
-// What follows call `i`: a save, and a load of one.
-fn after(
-    out: Stdout,
-    image: &Image,
-    map: &Lists,
-    i: usize,
-    saved: &mut Tally,
-    loaded: &mut Tally,
-) -> io::Result<()> {
-    saving::after(out, image, map, i, saved)?;
-    loading::after(out, image, map, i, loaded)
-}
-
+// Makes a call with its charge, or with a value after so many inserts.
 fn call(
-    out: Stdout,
+    report: &mut Report<Tally>,
     image: &mut Image,
     map: &mut Lists,
     planned: Planned,
-    tally: Tally,
-) -> io::Result<Tally> {
-    let number = number_of(planned, tallies::get(tally, tallies::INSERTED));
-    numbered(out, image, map, planned, number, tally)
+) -> io::Result<()> {
+    let number = if planned.call == Call::SetCharge {
+        planned.charge
+    } else {
+        usize::from(numbers::value(planned.label, report.tally.inserted.number()))
+    };
+    numbered(report, image, map, planned, number)
 }
 
 // Makes a call with a value or a charge, and counts it.
 pub fn numbered(
-    out: Stdout,
+    report: &mut Report<Tally>,
     image: &mut Image,
     map: &mut Lists,
     planned: Planned,
     number: usize,
-    tally: Tally,
-) -> io::Result<Tally> {
-    let width = image.sizes.width;
-    let label = planned.shape.label(width, planned.label);
-    let round = labelled(out, image, map, planned, label.as_slice(), number)?;
-    Ok(tallies::count(tally, planned.call, round, plainmap::held(map)))
+) -> io::Result<()> {
+    let label = planned.shape.label(image.sizes.width, planned.label);
+    let request = Request {
+        call: planned.call,
+        label: label.as_slice(),
+        number,
+    };
+    let round = as_named(rounds::made(image, map, request), planned.refusal);
+    report.count(planned.call, label.as_slice(), round, plainmap::held(map))
 }
 
-// The charge of a call that sets one; of any other a value, after so many inserts.
-fn number_of(planned: Planned, inserted: usize) -> usize {
-    if planned.call == Call::SetCharge {
-        return planned.charge;
+// A round of a call that was to have a refusal's number: where it has another, that is its fault.
+pub fn as_named(round: Round, refusal: usize) -> Round {
+    if refusal == ANY_REFUSAL || refusal == packing::refusal(round.said) {
+        return round;
     }
-    usize::from(numbers::value(planned.label, inserted))
-}
-
-// Makes a call on a label; where it has a fault it is printed.
-fn labelled(
-    out: Stdout,
-    image: &mut Image,
-    map: &mut Lists,
-    planned: Planned,
-    label: &[u8],
-    number: usize,
-) -> io::Result<Round> {
-    let mut round = rounds::made(image, map, planned.call, label, number);
-    let fault = fault_of(round, planned.refusal);
-    if fault > 0 {
-        tallies::print_mismatch(out, planned.call, label, fault)?;
+    Round {
+        agrees: Err(Fault::Case),
+        ..round
     }
-    round.fault = fault;
-    Ok(round)
-}
-
-// The fault of a call that was to have a refusal's number.
-pub fn fault_of(round: Round, refusal: usize) -> usize {
-    if refusal != ANY_REFUSAL {
-        if refusal != round.refusal {
-            return faults::CASE;
-        }
-    }
-    round.fault
 }

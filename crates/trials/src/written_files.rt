@@ -4,71 +4,71 @@ use images::memory::Image;
 use images::outputs;
 use plans::planned::ANY_REFUSAL;
 use plans::{lengths, written};
-use reports::tallies;
-use reports::tallies::{CHANGES, Tally};
+use reports::Report;
+use reports::tallies::{Group, Tally};
 use samples::shapes::Shape;
 use std::io;
 use std::io::Stdout;
 
+// The groups' names.
+const NAMES: [&str; written::GROUPS] = [
+    "taken",
+    "counts",
+    "lengths",
+    "labels",
+    "values",
+    "long numbers",
+    "order",
+    "order last",
+    "order first",
+    "ends",
+    "rosters",
+];
+
 // Makes the loads of each group, and prints a line for each; the hub's index alone has them.
 pub fn run(out: Stdout, image: &Image) -> io::Result<()> {
-    if image.is_page() {
-        return Ok(());
-    }
-    for group in 0..written::GROUPS {
-        let tally = made(out, image, group)?;
-        tallies::print_written_loads(out, group, tally)?;
+    for (group, name) in NAMES.iter().enumerate() {
+        let mut report = Report::new(out);
+        for i in 0..written::FILES {
+            load(&mut report, image, group, i, written::refusal(group, i))?;
+        }
+        report.print_written_loads(name)?;
     }
     Ok(())
 }
 
-fn made(out: Stdout, image: &Image, group: usize) -> io::Result<Tally> {
-    let mut tally = tallies::none();
-    for i in 0..written::FILES {
-        let counted = load(out, image, group, i, written::refusal(group, i), tally)?;
-        tally = counted;
-    }
-    Ok(tally)
-}
-
 // Loads a file, where there is one, that is to have a refusal's number.
 fn load(
-    out: Stdout,
+    report: &mut Report<Tally>,
     image: &Image,
     group: usize,
     i: usize,
     refusal: usize,
-    tally: Tally,
-) -> io::Result<Tally> {
+) -> io::Result<()> {
     let mut file = outputs::fresh();
     let n = written::write(&mut file, group, i);
     if n == written::NO_FILE {
-        return Ok(tally);
+        return Ok(());
     }
-    loading::tried(out, image, &file, n, refusal, tally)
+    loading::tried(report, image, &file, n, refusal)
 }
 
 // Loads the first file of each group into memory of each pair of lengths, and prints their line.
 pub fn run_lent(out: Stdout, image: &Image) -> io::Result<()> {
-    let tally = lend(out, image)?;
-    tallies::print_file_loads(out, image.is_page(), Shape::Roster, 2, tally)
-}
-
-fn lend(out: Stdout, image: &Image) -> io::Result<Tally> {
-    let mut tally = tallies::none();
-    for k in 0..lengths::PAIRS * written::GROUPS {
-        let next = lent(out, image, k, tally)?;
-        tally = next;
+    let mut report = Report::<Tally>::new(out);
+    for pair in 0..lengths::PAIRS {
+        let mut copy = *image;
+        lengths::lend(&mut copy, pair);
+        if !copy.is_page() {
+            for group in 0..written::GROUPS {
+                report.tally.changes.add_if(copy != *image);
+                load(&mut report, &copy, group, 0, ANY_REFUSAL)?;
+            }
+        }
     }
-    Ok(tally)
-}
-
-fn lent(out: Stdout, image: &Image, k: usize, tally: Tally) -> io::Result<Tally> {
-    let mut copy = *image;
-    lengths::lend(&mut copy, k / written::GROUPS);
-    if copy.is_page() {
-        return Ok(tally);
-    }
-    let changed = tallies::one_more_if(tally, CHANGES, *image != copy);
-    load(out, &copy, k % written::GROUPS, 0, ANY_REFUSAL, changed)
+    report.print_file_loads(Group {
+        page: image.is_page(),
+        shape: Shape::Roster,
+        name: "other lengths",
+    })
 }
