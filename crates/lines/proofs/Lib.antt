@@ -1,4 +1,2 @@
-pub mod Ends
-pub mod Inserts
-pub mod Letters
+pub mod Labels
 pub mod Asks

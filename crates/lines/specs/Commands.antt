@@ -1,8 +1,9 @@
 -- What a line of `hubshell` asks (document 01, below 'Worked on paper'). A line is its bytes, without the byte 10.
-use Rattle.std.specs.Prelude.{List, [], ◌∷◌, Bool, ◌&&◌, cond, ℕ, ◌-◌, eqb, leb, ltb, length, take, drop}
+use Rattle.std.specs.Prelude.{List, [], ◌∷◌, Bool, ◌&&◌, cond, ℕ, eqb, leb, ltb, length, Option, Some, None}
 use Rattle.labels.specs.Labels.{Label}
 use Rattle.decimals.specs.Decimals.{decimal_after, is_value}
-use Rattle.lines.specs.declared.Command as code
+use Rattle.lines.specs.declared.Command.{Command}
+use Rattle.lines.specs.declared.Command.TheVariants.{Insert, Delete, Search}
 
 -- what a line asks: a call of the index, or nothing
 pub data Asked : Type 0 where
@@ -12,11 +13,11 @@ pub data Asked : Type 0 where
   bad : Asked
 
 -- the command that the code gives for a line
-abbrev pub asked_by : List ℕ → code.Command → Asked
-asked_by line (code.TheVariants.Insert end value) = insert (take (end - 2) (drop 2 line)) value
-asked_by line (code.TheVariants.Delete end) = delete (take (end - 2) (drop 2 line))
-asked_by line (code.TheVariants.Search end) = search (take (end - 2) (drop 2 line))
-asked_by line code.TheVariants.Bad = bad
+abbrev pub asked_by : Option Command → Asked
+asked_by None = bad
+asked_by (Some (Insert label value)) = insert label.now value
+asked_by (Some (Delete label)) = delete label.now
+asked_by (Some (Search label)) = search label.now
 
 -- "A label is any number of bytes 33 to 126, none too"
 abbrev pub is_label_byte : ℕ → Bool
