@@ -1,7 +1,7 @@
 -- What the parts of the writing of an answer's line leave.
-use Rattle.std.specs.Prelude.{◌≡◌, List, ◌++◌, ℕ, ◌+◌, ◌≤◌, take}
+use Rattle.std.specs.Prelude.{◌≡◌, List, ◌++◌, ℕ, ◌+◌, ◌≤◌, length}
 
--- a text of at most so many bytes is put at a place of a buffer, after what stood before that place
-pub record Puts (before : List ℕ) (place : ℕ) (text : List ℕ) (most : ℕ) (after : List ℕ) (end : ℕ) : Type 0 where
-  pub front : take end after ≡ take place before ++ text
-  pub room : end ≤ place + most
+-- some bytes, at most so many, are put behind a text
+pub record Puts (before bytes : List ℕ) (most : ℕ) (after : List ℕ) : Type 0 where
+  pub text : after ≡ before ++ bytes
+  pub room : length after ≤ length before + most

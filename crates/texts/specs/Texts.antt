@@ -1,5 +1,5 @@
 -- The line that answers a line of `hubshell` (document 01, below 'Worked on paper').
-use Rattle.std.specs.Prelude.{List, [], ◌∷◌, ◌++◌, true, false, ℕ, zero, suc, ◌+◌, ◌/◌, ◌%◌, ltb}
+use Rattle.std.specs.Prelude.{List, [], ◌∷◌, ◌++◌, true, false, ℕ, zero, suc, ◌+◌, ◌/◌, ◌%◌, ltb, Option, Some, None}
 use Rattle.types.specs.Answers.{Answer, found, absent, updated, listed, done, refused, search_says, update_says}
 use Rattle.texts.specs.declared.Said as code
 
@@ -55,7 +55,7 @@ unfoldable pub bad_text : List ℕ
 bad_text = bad_word ++ line_end
 
 -- the line for what the code says
-abbrev pub text_said : code.Said → List ℕ
-text_said (code.TheVariants.Update answer) = text_of (update_says answer)
-text_said (code.TheVariants.Search answer) = text_of (search_says answer)
-text_said code.TheVariants.Bad = bad_text
+abbrev pub text_said : Option code.Said → List ℕ
+text_said (Some (code.TheVariants.Update answer)) = text_of (update_says answer)
+text_said (Some (code.TheVariants.Search answer)) = text_of (search_says answer)
+text_said None = bad_text

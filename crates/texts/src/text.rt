@@ -1,0 +1,73 @@
+// A text of at most N bytes, in fixed memory, and what is put behind it.
+use arrayvec::ArrayVec;
+use itoa::Buffer;
+use std::marker::Model;
+
+// The bytes that are put so far.
+#[derive(Drop)]
+pub struct Text<const N: usize> {
+    bytes: ArrayVec<u8, N>,
+}
+
+impl<const N: usize> Model for Text<N> {
+    ghost use Rattle.std.specs.Prelude.{List, ℕ};
+
+    ghost Value = { List ℕ };
+
+    ghost view = { λ text. text.bytes.items };
+}
+
+impl<const N: usize> Text<N> {
+    ghost use Rattle.std.specs.Prelude.{◌≡◌, ◌≤◌, ◌+◌, [], length};
+    ghost use Rattle.texts.specs.Texts.{decimal, then_number};
+    ghost use Rattle.texts.specs.Puts.{Puts};
+
+    // No byte is put.
+    pub fn new() -> Self
+        ensures { result ≡ [] }
+    {
+        Text {
+            bytes: ArrayVec::new(),
+        }
+    }
+
+    // Takes all bytes away.
+    pub fn clear(&mut self)
+        ensures { self.new ≡ [] }
+    {
+        self.bytes.clear();
+    }
+
+    // The bytes that are put.
+    pub fn bytes(&self) -> &[u8]
+        ensures { result.now ≡ self.now }
+    {
+        self.bytes.as_slice()
+    }
+
+    // Puts bytes, for which there is room.
+    pub fn put(&mut self, bytes: &[u8])
+        requires { length self.old + length bytes.now ≤ N }
+        ensures { Puts self.old bytes.now (length bytes.now) self.new }
+    {
+        let _ = self.bytes.try_extend_from_slice(bytes);
+    }
+
+    // Puts the digits of a number.
+    pub fn put_decimal(&mut self, number: usize)
+        requires { length self.old + 20 ≤ N }
+        ensures { Puts self.old (decimal number) 20 self.new }
+    {
+        let mut digits = Buffer::new();
+        self.put(digits.format(number).as_bytes());
+    }
+
+    // Puts a space and a number.
+    pub fn put_number(&mut self, number: usize)
+        requires { length self.old + 21 ≤ N }
+        ensures { Puts self.old (then_number number) 21 self.new }
+    {
+        self.put(b" ");
+        self.put_decimal(number);
+    }
+}
