@@ -1,58 +1,52 @@
 // The line of an input that has begun, kept while its bytes come.
 #![tactic(auto)]
 
-ghost use Rattle.std.specs.Prelude.{◌≡◌, [], min, length};
-ghost use Rattle.inputs.specs.Reads.{kept};
-ghost use Rattle.keeps.specs.Held.{line_of, Held};
+use arrayvec::ArrayVec;
+use std::marker::Model;
 
 // The bytes that are kept of a line: one above 80 bytes asks nothing.
 pub const ROOM: usize = 81;
 
 // What is kept of the line: its first bytes.
-#[derive(Clone, Copy)]
+#[derive(Drop)]
 pub struct Line {
-    pub bytes: [u8; ROOM],
-    pub len: usize,
+    bytes: ArrayVec<u8, ROOM>,
 }
 
-// No line has begun.
-pub fn fresh() -> Line
-    ensures { line_of result ≡ [] }
-{
-    Line {
-        bytes: [0; ROOM],
-        len: 0,
+impl Model for Line {
+    ghost use Rattle.std.specs.Prelude.{List, ℕ};
+
+    ghost Value = { List ℕ };
+
+    ghost view = { λ line. line.bytes.items };
+}
+
+impl Line {
+    ghost use Rattle.std.specs.Prelude.{◌≡◌, []};
+    ghost use Rattle.inputs.specs.Reads.{kept};
+
+    // No line has begun.
+    pub fn new() -> Self
+        ensures { result ≡ [] }
+    {
+        Line {
+            bytes: ArrayVec::new(),
+        }
     }
-}
 
-// One more byte of the line.
-pub fn keep(line: Line, byte: u8) -> Line
-    ensures { line_of result ≡ kept (line_of line) byte }
-{
-    let mut bytes = line.bytes;
-    let len = held(&bytes, line.len);
-    if len < ROOM {
-        bytes[len] = byte;
-        return Line {
-            bytes,
-            len: len + 1,
-        };
+    // One more byte of the line: it is kept where there is room.
+    pub fn push(&mut self, byte: u8)
+        ensures { self.new ≡ kept self.old byte }
+    {
+        if !self.bytes.is_full() {
+            self.bytes.push(byte);
+        }
     }
-    line
-}
 
-// How many bytes of the line are kept: no more than there is room for.
-pub fn held(bytes: &[u8; ROOM], len: usize) -> usize
-    ensures { Held bytes.now len result }
-{
-    at_most(bytes, len)
-}
-
-fn at_most(bytes: &[u8], len: usize) -> usize
-    ensures { result ≡ min len (length bytes.now) }
-{
-    if len < bytes.len() {
-        return len;
+    // The bytes that are kept.
+    pub fn bytes(&self) -> &[u8]
+        ensures { result.now ≡ self.now }
+    {
+        self.bytes.as_slice()
     }
-    bytes.len()
 }
