@@ -1,8 +1,9 @@
+use borrow.Author.Rules.{rules}
 use Rattle.layouts.proofs.LayoutLaws.{layout_refused, layout_done}
 use Rattle.layouts.proofs.layout_within.Goals as goal
 
-pub returns-in-Refused : goal.returns-in-Refused
-returns-in-Refused c = search layout_refused
+pub returns-in_err-of_memory : goal.returns-in_err-of_memory
+returns-in_err-of_memory c = search (rules, layout_refused)
 
-pub returns-in-Pass : goal.returns-in-Pass
-returns-in-Pass c = search layout_done
+pub returns : goal.returns
+returns c = search (rules, layout_done)
