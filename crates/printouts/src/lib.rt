@@ -1,4 +1,4 @@
-// The lines that `roster` prints, put at a place of a lent buffer. What stands before that place stays.
+// The lines that `roster` prints, put behind a text.
 #![tactic(auto)]
 
 ghost use Rattle.std.specs.Prelude.{◌++◌, ◌+◌, ◌≤◌, length};
@@ -10,62 +10,62 @@ ghost use Rattle.texts.specs.Puts.{Puts};
 ghost use Rattle.printouts.specs.Printouts.{answer_line, then_label, line_with};
 ghost use Rattle.printouts.specs.Rooms.{answer_room, label_room, line_room};
 
-use types::{Refusal, RosterAnswer};
+use texts::Text;
+use types::RefusedRecord;
 
-// The answer's line, put at a place; gives the place after it.
-pub fn put_answer(answer: RosterAnswer, out: &mut [u8], place: usize) -> usize
-    requires { place + answer_room ≤ length out.old }
-    ensures { Puts out.old place (answer_line (roster_says answer)) answer_room out.new result }
+// Puts the answer's line.
+pub fn put_answer<const N: usize>(answer: Result<usize, RefusedRecord>, out: &mut Text<N>)
+    requires { length out.old + answer_room ≤ N }
+    ensures { Puts out.old (answer_line (roster_says answer)) answer_room out.new }
 {
     match answer {
-        RosterAnswer::Taken(count) => {
-            let end = texts::put(out, place, b"ok");
-            put_last(out, end, count)
+        Ok(count) => {
+            out.put(b"ok");
+            put_last(out, count);
         }
-        RosterAnswer::Refused { number, refusal } => put_refusal(number, refusal, out, place),
+        Err(at) => put_refusal(at, out),
     }
 }
 
-// The line for a refusal at a record, put at a place; gives the place after it.
-fn put_refusal(number: usize, refusal: Refusal, out: &mut [u8], place: usize) -> usize
-    requires { place + answer_room ≤ length out.old }
-    ensures { Puts out.old place (answer_line (refused number (refusal_number refusal)))
-        answer_room out.new result }
+// Puts the line for a refusal at a record.
+fn put_refusal<const N: usize>(at: RefusedRecord, out: &mut Text<N>)
+    requires { length out.old + answer_room ≤ N }
+    ensures { Puts out.old (answer_line (refused at.number (refusal_number at.refusal)))
+        answer_room out.new }
 {
-    let reason = types::number_of(refusal);
-    let first = texts::put(out, place, b"no");
-    let second = texts::put_number(out, first, reason);
-    let third = texts::put(out, second, b" record");
-    put_last(out, third, number)
+    out.put(b"no");
+    out.put_number(at.refusal.number());
+    out.put(b" record");
+    put_last(out, at.number);
 }
 
-// A number and the line's end, put at a place; gives the place after them.
-fn put_last(out: &mut [u8], place: usize, number: usize) -> usize
-    requires { place + 22 ≤ length out.old }
-    ensures { Puts out.old place (then_number number ++ line_end) 22 out.new result }
+// Puts a number and the line's end.
+fn put_last<const N: usize>(out: &mut Text<N>, number: usize)
+    requires { length out.old + 22 ≤ N }
+    ensures { Puts out.old (then_number number ++ line_end) 22 out.new }
 {
-    let end = texts::put_number(out, place, number);
-    texts::put(out, end, b"\n")
+    out.put_number(number);
+    out.put(b"\n");
 }
 
-// The line of a label with its slot and its value, put at a place; gives the place after it.
-pub fn put_line(slot: u16, value: u16, label: &[u8], out: &mut [u8], place: usize) -> usize
+// Puts the line of a label with its slot and its value.
+pub fn put_line<const N: usize>(slot: u16, value: u16, label: &[u8], out: &mut Text<N>)
     requires label_len_bound { length label.now ≤ hub.width }
-    requires line_room_in_bounds { place + line_room ≤ length out.old }
-    ensures { Puts out.old place (line_with slot value label.now) line_room out.new result }
+    requires line_room_in_bounds { length out.old + line_room ≤ N }
+    ensures { Puts out.old (line_with slot value label.now) line_room out.new }
 {
-    let first = texts::put_digits(out, place, 20, slot as usize);
-    let second = texts::put_number(out, first, value as usize);
-    put_label(label, out, second)
+    out.put_decimal(slot as usize);
+    out.put_number(value as usize);
+    put_label(label, out);
 }
 
-// A space, a label and the line's end, put at a place; gives the place after them.
-fn put_label(label: &[u8], out: &mut [u8], place: usize) -> usize
+// Puts a space, a label and the line's end.
+fn put_label<const N: usize>(label: &[u8], out: &mut Text<N>)
     requires label_len_bound { length label.now ≤ hub.width }
-    requires label_room_in_bounds { place + label_room ≤ length out.old }
-    ensures { Puts out.old place (then_label label.now) label_room out.new result }
+    requires label_room_in_bounds { length out.old + label_room ≤ N }
+    ensures { Puts out.old (then_label label.now) label_room out.new }
 {
-    let first = texts::put(out, place, b" ");
-    let second = texts::put(out, first, label);
-    texts::put(out, second, b"\n")
+    out.put(b" ");
+    out.put(label);
+    out.put(b"\n");
 }

@@ -2,4 +2,4 @@ use Rattle.printouts.proofs.Lines.{line_put}
 use Rattle.printouts.proofs.put_line.Goals as goal
 
 pub returns : goal.returns
-returns c = search line_put
+returns g c = search line_put
