@@ -1,27 +1,24 @@
 -- The step at one node, by its turn.
 -- `decide_smaller`, `decide_same`, `decide_larger`: the step after a comparison, by its order.
 -- `compared_row`, `row_inside`: the bytes compared are the label of the slot, which lies within the store.
--- `turn_right`, `turn_left`: the turn where the walk has not reached the place.
--- `turn_by_predecessor`, `turn_by_successor`: the turn by the number that each side goes by.
 -- `row_left`, `row_right`, `row_compared`: the step at the node, by its turn.
 use mathlib.Core.Path.{◌≡◌, refl, ◌∙◌}
 use mathlib.Core.Logic.{◌≢◌}
 use mathlib.Core.List.{List}
 use mathlib.Core.Bool.{Bool, true, false, cond}
-use Prim.Native.Nat.{ℕ, zero, suc, ◌+◌, ◌-◌, ◌≤◌, Ordering}
+use Prim.Native.Nat.{ℕ, zero, suc, ◌+◌, ◌-◌, ◌≤◌, Ordering as Compares}
 use native.Mathlib.Numerals.{add-one}
 use native.Mathlib.Omega.{arith}
 use lib.Dec.{ltb}
 use denote.Ref.{Bor}
 use borrow.Author.Tests.{lt-ltb, le-ltb, eq-eqb, ne_eqb}
+use Rattle.std.specs.declared.cmp.Ordering.TheVariants.{Less, Equal, Greater}
 use Rattle.types.specs.declared.Limits.{Limits}
 use Rattle.types.specs.declared.Row.{Row}
 use Rattle.labels.specs.Labels.{Label, compare_from}
 use Rattle.labels.proofs.Numbers.{Ordered, is_lt, is_eq, is_gt, ordered}
 use Rattle.compares.specs.declared.Compared.{Compared}
-use Rattle.orders.specs.declared.Order.TheVariants.{Smaller, Same, Larger}
 use Rattle.compares.specs.Compares.{comparison_of}
-use Rattle.trees.specs.Valid.{one_if}
 use Rattle.tables.specs.Words.{label_at}
 use Rattle.tables.specs.Steps.{Step, go_left, go_right, stop, compare_step, predecessor_step, successor_step, is_tie}
 use Rattle.tables.specs.Steps.{step_at}
@@ -37,13 +34,13 @@ module _ (p s d : ℕ) (c : Compared) where
   abbrev examined : ℕ
   examined = c.place + 1 - d
 
-  pub decide_smaller : c.order ≡ Smaller → go_left p c.place examined ≡ compare_step (comparison_of c) d p s
+  pub decide_smaller : c.order ≡ Less → go_left p c.place examined ≡ compare_step (comparison_of c) d p s
   decide_smaller e = rw (e, add-one c.place)
 
-  pub decide_same : c.order ≡ Same → stop examined ≡ compare_step (comparison_of c) d p s
+  pub decide_same : c.order ≡ Equal → stop examined ≡ compare_step (comparison_of c) d p s
   decide_same e = rw (e, add-one c.place)
 
-  pub decide_larger : c.order ≡ Larger → go_right c.place s examined ≡ compare_step (comparison_of c) d p s
+  pub decide_larger : c.order ≡ Greater → go_right c.place s examined ≡ compare_step (comparison_of c) d p s
   decide_larger e = rw (e, add-one c.place)
 
 -- a comparison with what the store shows is one with the slot's label
@@ -70,7 +67,7 @@ taken_by Compare compared p s = compared
 
 module _ (d p s : ℕ) (compared : Step) where
   -- the step by P, at a tie first
-  predecessor_turn : {o : Ordering} → Ordered p d o
+  predecessor_turn : {o : Compares} → Ordered p d o
       → cond (is_tie d p s) (go_right p s 0) (predecessor_step o compared p s) ≡ taken_by (turn_of 0 d p s) compared p s
   unfolding turn_of
   predecessor_turn (is_lt less) =
@@ -86,7 +83,7 @@ module _ (d p s : ℕ) (compared : Step) where
       let apart : p ≢ d = λ e. omega arith in rw (ne_eqb p d apart, lt-ltb d p more)
 
   -- the step by S, which is not above the place where it is the place
-  successor_turn : {o : Ordering} → Ordered s d o → successor_step o compared p s ≡ taken_by (turn_of 1 d s s) compared p s
+  successor_turn : {o : Compares} → Ordered s d o → successor_step o compared p s ≡ taken_by (turn_of 1 d s s) compared p s
   unfolding turn_of
   successor_turn (is_lt less) =
       let apart : s ≢ d = λ e. omega arith in
@@ -104,25 +101,6 @@ unfolding turn_of
 turn_step x c zero d p s sided = predecessor_turn d p s (compare_step (compare_from d x c) d p s) (ordered p d)
 turn_step x c (suc zero) d p s sided = successor_turn d p s (compare_step (compare_from d x c) d p s) (ordered s d)
 turn_step x c (suc (suc side)) d p s sided = absurd (omega arith)
-
--- the turn of a walk that has not reached the place, by whether it is beyond it
-module _ (side d reached s beyond : ℕ) (apart : reached ≢ d) (test : beyond ≡ one_if (ltb d reached)) where
-  pub turn_right : beyond ≡ side → Right ≡ turn_of side d reached s
-  unfolding turn_of
-  turn_right same = rw (ne_eqb reached d apart, ← test, eq-eqb beyond side same)
-
-  pub turn_left : beyond ≢ side → Left ≡ turn_of side d reached s
-  unfolding turn_of
-  turn_left other = rw (ne_eqb reached d apart, ← test, ne_eqb beyond side other)
-
--- the turn by the number that each side goes by
-pub turn_by_predecessor : (side d p s : ℕ) (t : Turn) → side ≡ 0 → t ≡ turn_of side d p s
-    → t ≡ turn_of side d (reached_on side p s) s
-turn_by_predecessor side d p s t first so = rw (eq-eqb side 0 first) so
-
-pub turn_by_successor : (side d p s : ℕ) (t : Turn) → side ≢ 0 → t ≡ turn_of side d s s
-    → t ≡ turn_of side d (reached_on side p s) s
-turn_by_successor side d p s t other so = rw (ne_eqb side 0 other) so
 
 -- the step at the node in a slot, whose row is read and whose turn is t
 module _ (limits : Limits) (store : List ℕ) (x : Label) (link : ℕ) (row : Row) (p s reached : ℕ) (t : Turn)

@@ -1,45 +1,26 @@
 -- The code's step at one node, with the slots that it yields, and the spot after it.
--- `onward_right`, `onward_left`: the step to a son.
 -- `decided_smaller`, `decided_same`, `decided_larger`: the step after a comparison, by its order.
 -- `visit_left`, `visit_right`, `visit_compared`: the step at the node, by its turn.  `after_step`: the spot after it.
 use mathlib.Core.Path.{◌≡◌, refl, ap, ◌∙◌}
 use mathlib.Core.List.{List}
-use mathlib.Core.Bool.{Bool, true, false}
+use mathlib.Core.Bool.{true, false}
 use Prim.Native.Nat.{ℕ, ◌+◌, ◌-◌, ◌≤◌}
+use Rattle.std.specs.declared.cmp.Ordering.TheVariants.{Less, Equal, Greater}
 use Rattle.types.specs.declared.Limits.{Limits}
 use Rattle.types.specs.declared.Row.{Row}
 use Rattle.labels.specs.Labels.{Label, compare_from}
 use Rattle.compares.specs.declared.Compared.{Compared}
-use Rattle.orders.specs.declared.Order.TheVariants.{Smaller, Same, Larger}
 use Rattle.compares.specs.Compares.{comparison_of}
 use Rattle.tables.specs.Words.{label_at}
-use Rattle.tables.specs.Steps.{stop, compare_step}
+use Rattle.tables.specs.Steps.{compare_step}
 use Rattle.nodes.specs.declared.Spot.{Spot}
+use Rattle.nodes.specs.declared.Move.{Move}
 use Rattle.nodes.specs.declared.Step as code
+use Rattle.nodes.specs.declared.Step.TheVariants.{Found, Onward}
 use Rattle.nodes.specs.declared.Turn.{Turn}
 use Rattle.nodes.specs.declared.Turn.TheVariants.{Left, Right, Compare}
 use Rattle.nodes.specs.Nodes.{reached_on, turn_of, step_onward, step_from, row_step, son_of, spot_after}
 use Rattle.nodes.proofs.Turns.{decide_smaller, decide_same, decide_larger, row_left, row_right, row_compared}
-
--- the step to a son of the node in a slot
-module _ (w : Spot) (slot : ℕ) (right : Bool) (p s examined : ℕ) where
-  abbrev onward_with : (below above : ℕ) → code.Step
-  onward_with below above =
-      record {
-        found = false;
-        right = right;
-        p = p;
-        s = s;
-        below = below;
-        above = above;
-        examined = examined;
-      }
-
-  pub onward_right : right ≡ true → onward_with slot w.above ≡ step_onward w slot right p s examined
-  onward_right is = rw is
-
-  pub onward_left : right ≡ false → onward_with w.below slot ≡ step_onward w slot right p s examined
-  onward_left is = rw is
 
 -- the step at w and the node in a slot, after a comparison that started at place d; the places that it examined
 -- are told by their number
@@ -47,15 +28,14 @@ module _ (w : Spot) (slot d : ℕ) (c : Compared) (r : code.Step) where
   abbrev decision : code.Step
   decision = step_from w slot (compare_step (comparison_of c) d w.p w.s)
 
-  pub decided_smaller : (examined : ℕ) → c.order ≡ Smaller → r ≡ step_onward w slot false w.p c.place examined
+  pub decided_smaller : (examined : ℕ) → c.order ≡ Less → r ≡ Onward (step_onward w slot false w.p c.place examined)
       → examined ≡ c.place + 1 - d → r ≡ decision
   decided_smaller examined o is many = is ∙ rw many (ap (step_from w slot) (decide_smaller w.p w.s d c o))
 
-  pub decided_same : c.order ≡ Same → r ≡ step_from w slot (stop r.examined) → r.examined ≡ c.place + 1 - d
-      → r ≡ decision
-  decided_same o is many = is ∙ rw many (ap (step_from w slot) (decide_same w.p w.s d c o))
+  pub decided_same : (examined : ℕ) → c.order ≡ Equal → r ≡ Found examined → examined ≡ c.place + 1 - d → r ≡ decision
+  decided_same examined o is many = is ∙ rw many (ap (step_from w slot) (decide_same w.p w.s d c o))
 
-  pub decided_larger : (examined : ℕ) → c.order ≡ Larger → r ≡ step_onward w slot true c.place w.s examined
+  pub decided_larger : (examined : ℕ) → c.order ≡ Greater → r ≡ Onward (step_onward w slot true c.place w.s examined)
       → examined ≡ c.place + 1 - d → r ≡ decision
   decided_larger examined o is many = is ∙ rw many (ap (step_from w slot) (decide_larger w.p w.s d c o))
 
@@ -66,11 +46,11 @@ module _ (limits : Limits) (store : List ℕ) (x : Label) (w : Spot) (row : Row)
   abbrev from_here : code.Step
   from_here = step_from w w.link (row_step limits store x w.link row w.p w.s)
 
-  pub visit_left : t ≡ Left → r ≡ step_onward w w.link false w.p w.s 0 → r ≡ from_here
+  pub visit_left : t ≡ Left → r ≡ Onward (step_onward w w.link false w.p w.s 0) → r ≡ from_here
   visit_left e is =
       is ∙ ap (step_from w w.link) (row_left limits store x w.link row w.p w.s _ t sided refl turns e)
 
-  pub visit_right : t ≡ Right → r ≡ step_onward w w.link true w.p w.s 0 → r ≡ from_here
+  pub visit_right : t ≡ Right → r ≡ Onward (step_onward w w.link true w.p w.s 0) → r ≡ from_here
   visit_right e is =
       is ∙ ap (step_from w w.link) (row_right limits store x w.link row w.p w.s _ t sided refl turns e)
 
@@ -82,16 +62,16 @@ module _ (limits : Limits) (store : List ℕ) (x : Label) (w : Spot) (row : Row)
       ∙ ap (step_from w w.link)
       (row_compared limits store x w.link row w.p w.s _ t sided refl turns c _ e found refl)
 
--- the spot after a step into the son at the link next
-pub after_step : (w : Spot) (row : Row) (t : code.Step) (next : ℕ) → next ≡ son_of row t.right
+-- the spot after a move into the son at the link next
+pub after_step : (w : Spot) (row : Row) (m : Move) (next : ℕ) → next ≡ son_of row m.right
     → record {
       link = next;
-      p = t.p;
-      s = t.s;
-      below = t.below;
-      above = t.above;
+      p = m.p;
+      s = m.s;
+      below = m.below;
+      above = m.above;
       visits = w.visits + 1;
-      places = w.places + t.examined;
+      places = w.places + m.examined;
     }
-    ≡ spot_after w row t
-after_step w row t next e = rw e
+    ≡ spot_after w row m
+after_step w row m next e = rw e

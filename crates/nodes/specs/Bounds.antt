@@ -7,7 +7,7 @@ use Rattle.tables.specs.Words.{row_at}
 use Rattle.words.specs.Limits.{LimitsFit}
 use Rattle.compares.specs.declared.Compared.{Compared}
 use Rattle.nodes.specs.declared.Spot.{Spot}
-use Rattle.nodes.specs.declared.Step.{Step}
+use Rattle.nodes.specs.declared.Move.{Move}
 
 -- a table of these sizes
 pub record CanTest (limits : Limits) (table : List ℕ) : Type 0 where
@@ -47,11 +47,11 @@ pub record AtPlace (d : ℕ) (c : Compared) : Type 0 where
   pub low : d ≤ c.place
   pub high : c.place ≤ 4097
 
--- a step whose counts may be added
-pub record CanStep (w : Spot) (t : Step) : Type 0 where
+-- a move whose counts may be added
+pub record CanStep (w : Spot) (m : Move) : Type 0 where
   pub visits : w.visits ≤ 64
   pub places : w.places ≤ 4097 * w.visits
-  pub examined : t.examined ≤ 4097
+  pub examined : m.examined ≤ 4097
 
 -- the spot v after w: one visit more, and at most 4097 places
 pub record Onward (w v : Spot) : Type 0 where

@@ -8,7 +8,9 @@ use Rattle.tables.specs.Words.{row_at, label_at}
 use Rattle.tables.specs.Steps as definition
 use Rattle.tables.specs.Steps.{go_left, go_right, stop, is_bad, step_at}
 use Rattle.nodes.specs.declared.Spot.{Spot}
+use Rattle.nodes.specs.declared.Move.{Move}
 use Rattle.nodes.specs.declared.Step.{Step}
+use Rattle.nodes.specs.declared.Step.TheVariants.{Found, Onward}
 use Rattle.nodes.specs.declared.Turn.{Turn}
 use Rattle.nodes.specs.declared.Turn.TheVariants.{Left, Right, Compare}
 
@@ -40,11 +42,10 @@ below_after right slot below = cond right slot below
 abbrev pub above_after : (right : Bool) (slot above : ℕ) → ℕ
 above_after right slot above = cond right above slot
 
--- the step at w to a son of the node in a slot
-abbrev pub step_onward : Spot → (slot : ℕ) (right : Bool) (p s examined : ℕ) → Step
+-- the move from w to a son of the node in a slot
+abbrev pub step_onward : Spot → (slot : ℕ) (right : Bool) (p s examined : ℕ) → Move
 step_onward w slot right p s examined =
     record {
-      found = false;
       right = right;
       p = p;
       s = s;
@@ -55,18 +56,14 @@ step_onward w slot right p s examined =
 
 -- the code's step at w and the node in a slot, with the slots that it yields
 abbrev pub step_from : Spot → (slot : ℕ) → definition.Step → Step
-step_from w slot (go_left p s examined) = step_onward w slot false p s examined
-step_from w slot (go_right p s examined) = step_onward w slot true p s examined
-step_from w slot (stop examined) =
-    record {
-      found = true;
-      right = false;
-      p = w.p;
-      s = w.s;
-      below = w.below;
-      above = w.above;
-      examined = examined;
-    }
+step_from w slot (go_left p s examined) = Onward (step_onward w slot false p s examined)
+step_from w slot (go_right p s examined) = Onward (step_onward w slot true p s examined)
+step_from w slot (stop examined) = Found examined
+
+-- the places that a step examined
+abbrev pub examined_in : Step → ℕ
+examined_in (Found examined) = examined
+examined_in (Onward m) = m.examined
 
 -- the step at the node in a slot, of which the row was read
 unfoldable pub row_step : Limits → (store : List ℕ) → Label → (link : ℕ) → Row → (p s : ℕ) → definition.Step
@@ -81,15 +78,15 @@ node_step limits table store x w = row_step limits store x w.link (row_at table 
 unfoldable pub son_of : Row → (right : Bool) → ℕ
 son_of row right = cond right row.right row.left
 
--- where the walk stands after a step: one visit more, and the places that it examined
-abbrev pub spot_after : Spot → Row → Step → Spot
-spot_after w row t =
+-- where the walk stands after a move: one visit more, and the places that were examined
+abbrev pub spot_after : Spot → Row → Move → Spot
+spot_after w row m =
     record {
-      link = son_of row t.right;
-      p = t.p;
-      s = t.s;
-      below = t.below;
-      above = t.above;
+      link = son_of row m.right;
+      p = m.p;
+      s = m.s;
+      below = m.below;
+      above = m.above;
       visits = w.visits + 1;
-      places = w.places + t.examined;
+      places = w.places + m.examined;
     }

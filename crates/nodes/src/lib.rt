@@ -3,21 +3,18 @@
 // and the search of an update are made of these parts. Only `halts` and `son_at` read the table: all else takes a row.
 #![tactic(auto)]
 
-pub mod turning;
-
 ghost use Rattle.std.specs.Prelude.{◌≡◌, ◌≤◌};
 ghost use Rattle.labels.specs.Labels.{compare_from};
-ghost use Rattle.trees.specs.Valid.{one_if};
 ghost use Rattle.compares.specs.Compares.{comparison_of};
 ghost use Rattle.tables.specs.Words.{row_at, label_at};
 ghost use Rattle.tables.specs.Steps.{is_bad, compare_step};
 ghost use Rattle.words.specs.Rows.{HasRow};
 ghost use Rattle.nodes.specs.Nodes.{number_before, halts_at, reached_on, turn_of, row_step, son_of, spot_after};
-ghost use Rattle.nodes.specs.Nodes.{step_onward, step_from};
+ghost use Rattle.nodes.specs.Nodes.{step_onward, step_from, examined_in};
 ghost use Rattle.nodes.specs.Bounds.{AtRow, AtPlace, CanTest, CanStep, Onward};
 
 use compares::Compared;
-use orders::Order;
+use std::cmp::Ordering;
 use types::{Limits, Row};
 
 // Where the search of an update stands: the next link, the numbers P and S of the search steps, the slots of the last
@@ -42,11 +39,29 @@ pub enum Turn {
     Compare,
 }
 
-// What a node's step does there: the label is found, or the walk goes to the right son or else to the left one.
-// With it go P and S after the step, the slots of the nearest smaller and larger node, and the places that it examined.
+impl Turn {
+    // Where a node with this side and place d sends the walk, which has reached P or S, the number that the side goes
+    // by. With P at d and S above it the sought label is known to be larger. Side successor compares: there d is S.
+    // A number beyond d sends the walk left on side predecessor, 0, and right on side successor, 1; one below d sends
+    // it the other way.
+    #[tactic(auto, using(std::proofs::lemmas::Grind::common_steps), unfolding(crate::specs::Nodes::turn_of))]
+    pub fn of(side: usize, d: usize, reached: usize, s: usize) -> Turn
+        ensures { result ≡ turn_of side d reached s }
+    {
+        if reached == d {
+            if d < s { Turn::Right } else { Turn::Compare }
+        } else if usize::from(d < reached) == side {
+            Turn::Right
+        } else {
+            Turn::Left
+        }
+    }
+}
+
+// The way to a son of a node, the right one or else the left one: P and S after the node's step, the slots of the
+// nearest smaller and larger node, and the places that it examined.
 #[derive(Clone, Copy)]
-pub struct Step {
-    pub found: bool,
+pub struct Move {
     pub right: bool,
     pub p: usize,
     pub s: usize,
@@ -55,47 +70,39 @@ pub struct Step {
     pub examined: usize,
 }
 
-// 1 for what is so, and else 0: the index of a side, and of a son's link in its row.
-pub fn one_if(so: bool) -> usize
-    ensures value { result ≡ one_if so }
-    ensures upper_bound { result ≤ 1 }
-{
-    if so { 1 } else { 0 }
+// What a node's step does there: the label is found, after so many places, or the walk goes on to a son.
+#[derive(Clone, Copy)]
+pub enum Step {
+    Found { examined: usize },
+    Onward(Move),
 }
 
 // The number before a place or a link; before 0, which is neither, the largest of all.
+#[tactic(auto, using(std::proofs::lemmas::Grind::common_steps), unfolding(crate::specs::Nodes::number_before))]
 fn prior(number: usize) -> usize
     ensures { result ≡ number_before number }
 {
-    if number == 0 { usize::MAX } else { number - 1 }
+    number.wrapping_sub(1)
 }
 
 // Whether a node's length, place or side breaks the walk.
+#[tactic(auto, using(std::proofs::lemmas::Grind::common_steps), unfolding(tables::specs::Steps::is_bad, crate::specs::Nodes::number_before))]
 fn bad_row(limits: Limits, row: Row) -> bool
     ensures { result ≡ is_bad limits row }
 {
-    if (row.len == 0) | (limits.width < row.len as usize) {
-        return true;
-    }
-    if (row.len as usize) < prior(row.place as usize) {
-        return true;
-    }
-    1 < row.side
+    row.len == 0
+        || limits.width < row.len as usize
+        || (row.len as usize) < prior(row.place as usize)
+        || 1 < row.side
 }
 
 // Whether there is no node to visit: the link is empty, or the walk is broken there, with so many nodes left to visit.
+#[tactic(auto, using(std::proofs::lemmas::Grind::common_steps), unfolding(crate::specs::Nodes::halts_at, crate::specs::Nodes::number_before))]
 pub fn halts(limits: Limits, table: &[u16], link: usize, remaining: usize) -> bool
     requires { CanTest limits table.now }
     ensures { result ≡ halts_at limits table.now link remaining }
 {
-    if limits.slots <= prior(link) {
-        return true;
-    }
-    if remaining == 0 {
-        return true;
-    }
-    let row = words::read_row(table, link);
-    bad_row(limits, row)
+    limits.slots <= prior(link) || remaining == 0 || bad_row(limits, words::read_row(table, link))
 }
 
 // The comparison with the label of a node, from the node's place on.
@@ -109,41 +116,22 @@ pub fn compare_row(limits: Limits, store: &[u8], label: &[u8], link: usize, row:
     compares::compare(label, held, row.place as usize)
 }
 
-// The same comparison, by the table of place numbers.
-fn compare_by_table(limits: Limits, store: &[u8], label: &[u8], link: usize, row: Row) -> Compared
-    requires { AtRow limits store.now link row }
-    ensures result_value { comparison_of result
-        ≡ compare_from row.place label.now (label_at limits store.now link row.len) }
-    ensures at_place { AtPlace row.place result }
-{
-    let held = words::parts::label_at(limits, store, link, row.len as usize);
-    compares::by_table(label, held, row.place as usize)
-}
-
-// The step to a son of the node in this slot: right of the node it is the nearest smaller one, left of it the nearest
+// The way to a son of the node in this slot: right of the node it is the nearest smaller one, left of it the nearest
 // larger one.
-fn onward(spot: Spot, slot: u16, right: bool, p: usize, s: usize, examined: usize) -> Step
-    ensures value { result ≡ step_onward spot slot right p s examined }
-    ensures examined_value { result.examined ≡ examined }
+fn onward(spot: Spot, slot: u16, right: bool, p: usize, s: usize, examined: usize) -> Move
+    ensures { result ≡ step_onward spot slot right p s examined }
 {
-    if right {
-        return Step {
-            found: false,
-            right,
-            p,
-            s,
-            below: slot,
-            above: spot.above,
-            examined,
-        };
-    }
-    Step {
-        found: false,
+    let (below, above) = if right {
+        (slot, spot.above)
+    } else {
+        (spot.below, slot)
+    };
+    Move {
         right,
         p,
         s,
-        below: spot.below,
-        above: slot,
+        below,
+        above,
         examined,
     }
 }
@@ -152,23 +140,14 @@ fn onward(spot: Spot, slot: u16, right: bool, p: usize, s: usize, examined: usiz
 fn decide(spot: Spot, slot: u16, d: usize, c: Compared) -> Step
     requires { AtPlace d c }
     ensures value { result ≡ step_from spot slot (compare_step (comparison_of c) d spot.p spot.s) }
-    ensures examined_bound { result.examined ≤ 4097 }
+    ensures examined_bound { examined_in result ≤ 4097 }
 {
-    let examined = c.place + 1 - d;
     let place = c.place;
-    let order = c.order;
-    match order {
-        Order::Smaller => onward(spot, slot, false, spot.p, place, examined),
-        Order::Same => Step {
-            found: true,
-            right: false,
-            p: spot.p,
-            s: spot.s,
-            below: spot.below,
-            above: spot.above,
-            examined,
-        },
-        Order::Larger => onward(spot, slot, true, place, spot.s, examined),
+    let examined = place + 1 - d;
+    match c.order {
+        Ordering::Less => Step::Onward(onward(spot, slot, false, spot.p, place, examined)),
+        Ordering::Equal => Step::Found { examined },
+        Ordering::Greater => Step::Onward(onward(spot, slot, true, place, spot.s, examined)),
     }
 }
 
@@ -177,11 +156,8 @@ fn turn_at(spot: Spot, row: Row) -> Turn
     ensures { result ≡ turn_of row.side row.place (reached_on row.side spot.p spot.s) spot.s }
 {
     let side = row.side as usize;
-    let d = row.place as usize;
-    if side == 0 {
-        return turning::turn(side, d, spot.p, spot.s);
-    }
-    turning::turn(side, d, spot.s, spot.s)
+    let reached = if side == 0 { spot.p } else { spot.s };
+    Turn::of(side, row.place as usize, reached, spot.s)
 }
 
 // The whole step at a node with this row, where the walk is not broken.
@@ -190,15 +166,15 @@ pub fn visit(limits: Limits, store: &[u8], label: &[u8], spot: Spot, row: Row) -
     ensures value { result
         ≡ step_from spot spot.link
         (row_step limits store.now label.now spot.link row spot.p spot.s) }
-    ensures examined_bound { result.examined ≤ 4097 }
+    ensures examined_bound { examined_in result ≤ 4097 }
 {
     let slot = spot.link as u16;
-    let t = turn_at(spot, row);
-    match t {
-        Turn::Left => onward(spot, slot, false, spot.p, spot.s, 0),
-        Turn::Right => onward(spot, slot, true, spot.p, spot.s, 0),
+    match turn_at(spot, row) {
+        Turn::Left => Step::Onward(onward(spot, slot, false, spot.p, spot.s, 0)),
+        Turn::Right => Step::Onward(onward(spot, slot, true, spot.p, spot.s, 0)),
         Turn::Compare => {
-            let c = compare_by_table(limits, store, label, spot.link, row);
+            let held = words::parts::label_at(limits, store, spot.link, row.len as usize);
+            let c = compares::by_table(label, held, row.place as usize);
             decide(spot, slot, row.place as usize, c)
         }
     }
@@ -217,11 +193,11 @@ pub fn son_at(table: &[u16], link: usize, right: bool) -> u16
     ensures { result ≡ son_of (row_at table.now link) right }
 {
     let base = 4 + 8 * (link - 1);
-    table[base + one_if(right)]
+    table[base + usize::from(right)]
 }
 
-// Where the walk stands after the step at a node with this row.
-pub fn after(spot: Spot, row: Row, step: Step) -> Spot
+// Where the walk stands after a move from a node with this row.
+pub fn after(spot: Spot, row: Row, step: Move) -> Spot
     requires { CanStep spot step }
     ensures value { result ≡ spot_after spot row step }
     ensures onward { Onward spot result }

@@ -11,20 +11,19 @@ use native.Mathlib.Omega.{arith}
 use lib.Dec.{ltb, eqb}
 use lib.ListN.{length, get_or}
 use borrow.Author.Tests.{ne_eqb, eqb-true, eqb-false}
+use Rattle.std.specs.Prelude.{Result, Ok, Err}
 use Rattle.types.specs.declared.Limits.{Limits}
 use Rattle.types.specs.declared.Row.{Row}
-use Rattle.types.specs.declared.SearchAnswer.{SearchAnswer}
-use Rattle.types.specs.declared.SearchAnswer.TheVariants.{Found}
+use Rattle.types.specs.declared.Searched.{Searched}
+use Rattle.types.specs.declared.Searched.TheVariants.{Found}
 use Rattle.types.specs.declared.Refusal.{Refusal}
-use Rattle.types.specs.Answers.{Answer, refused, refusal_number, search_says}
+use Rattle.types.specs.Answers.{Answer, search_says}
 use Rattle.labels.specs.Labels.{Label}
 use Rattle.trees.specs.Trees.{Entry}
 use Rattle.tables.specs.Words.{root_link, row_at, entry_at}
 use Rattle.tables.specs.Steps.{stop, is_bad, broken, walk_by, missing, steps_by, steps, search_steps}
 use Rattle.tables.specs.Outcomes.{pass, of_memory, of_label, walk_answer, search_outcome}
-use Rattle.lengths.specs.declared.Early.{Early}
-use Rattle.lengths.specs.declared.Early.TheVariants.{Pass, Refused}
-use Rattle.lengths.specs.Early.{early_says}
+use Rattle.lengths.specs.Tests.{test_says}
 use Rattle.words.specs.Limits.{LimitsFit}
 use Rattle.lengths.proofs.FirstLines.{lengths_refused, lengths_passed, lengths_fit_lem}
 use Rattle.nodes.specs.Nodes.{halts_at, below_after, above_after, row_step, son_of}
@@ -102,7 +101,7 @@ module _ (limits : Limits) (table store : List ℕ) (x : Label) where
     above = get_or near 0 0
 
     -- where there is no node to visit, it ends
-    pub walk_halted : (a : SearchAnswer) → tested ≡ true → a ≡ halted_at link below above visits places
+    pub walk_halted : (a : Result Searched Refusal) → tested ≡ true → a ≡ halted_at link below above visits places
         → search_says a ≡ whole
     unfolding answer_from halts_at
     walk_halted a is said = go (eqb link 0) refl (sym test ∙ is) said
@@ -131,9 +130,9 @@ module _ (limits : Limits) (table store : List ℕ) (x : Label) where
           (steps_node remaining link (get_or ends 0 0) (get_or ends 1 0) (sym test ∙ fine))) ∙ at.so)
 
       -- where the label is found, it ends
-      pub walk_found : (held : Row) → held ≡ row_at table link → (examined more : ℕ) (a : SearchAnswer)
+      pub walk_found : (held : Row) → held ≡ row_at table link → (examined more : ℕ) (a : Result Searched Refusal)
           → stop examined ≡ row_step limits store x link row (get_or ends 0 0) (get_or ends 1 0)
-          → a ≡ Found link held.value (visits + 1) more → more ≡ places + examined → search_says a ≡ whole
+          → a ≡ Ok (Found link held.value (visits + 1) more) → more ≡ places + examined → search_says a ≡ whole
       walk_found held again examined more a step e sum = rw (e, sum, again) (rw (← step) at walk_stepped)
 
       -- where it is not, it goes on to a son
@@ -182,19 +181,19 @@ reached_root limits table store x root =
     }
 
 -- the outcome of a search, by its first tests: refused by them, or else the answer of the walk from the root
-module _ (limits : Limits) (table store : List ℕ) (x : Label) (early : Early)
-    (says : early_says early ≡ of_memory limits table store (of_label limits x pass)) where
-  pub outcome_refused : (r : Refusal) → early ≡ Refused r
-      → refused (refusal_number r) ≡ search_outcome limits table store x
+module _ (limits : Limits) (table store : List ℕ) (x : Label) (tested : Result Unit Refusal)
+    (says : test_says tested ≡ of_memory limits table store (of_label limits x pass)) where
+  pub outcome_refused : (a : Result Searched Refusal) (r : Refusal) → tested ≡ Err r → a ≡ Err r
+      → search_says a ≡ search_outcome limits table store x
   unfolding search_outcome
-  outcome_refused r e = rw (lengths_refused limits table store x early says r e pass)
+  outcome_refused a r e so = rw (so, lengths_refused limits table store x tested says r e pass)
 
-  pub outcome_walked : (a : Answer) → early ≡ Pass
+  pub outcome_walked : (a : Answer) → tested ≡ Ok tt
       → a ≡ walk_answer (steps limits table store x limits.depth (root_link table) 1 1)
       → a ≡ search_outcome limits table store x
   unfolding search_outcome search_steps
-  outcome_walked a e so = rw (lengths_passed limits table store x early says e pass) so
+  outcome_walked a e so = rw (lengths_passed limits table store x tested says e pass) so
 
   -- the table that they let through has a root link
-  pub root_there : LimitsFit limits → early ≡ Pass → 0 < length table
-  root_there fit e = let words = (lengths_fit_lem limits table store x early says fit e).words in omega arith
+  pub root_there : LimitsFit limits → tested ≡ Ok tt → 0 < length table
+  root_there fit e = let words = (lengths_fit_lem limits table store x tested says fit e).words in omega arith

@@ -10,14 +10,14 @@ use Prim.Native.Nat.{ℕ, zero, suc, ◌+◌, ◌-◌, ◌≤◌}
 use native.Mathlib.Omega.{arith}
 use lib.ListN.{length, get_or, set, length-set}
 use lib.Seq.{get_or-set_same, get_or-set_other}
+use Rattle.std.specs.Int.{from_bool}
+use Rattle.std.specs.declared.cmp.Ordering.TheVariants.{Less, Equal, Greater}
 use Rattle.types.specs.declared.Limits.{Limits}
 use Rattle.types.specs.declared.Row.{Row}
 use Rattle.labels.specs.Labels.{Label, compare_from}
 use Rattle.compares.specs.declared.Compared.{Compared}
-use Rattle.orders.specs.declared.Order.TheVariants.{Smaller, Same, Larger}
 use Rattle.compares.specs.Compares.{comparison_of}
 use Rattle.tables.specs.Words.{label_at}
-use Rattle.trees.specs.Valid.{one_if}
 use Rattle.tables.specs.Steps.{Step, go_left, go_right, stop, compare_step}
 use Rattle.nodes.specs.declared.Turn.{Turn}
 use Rattle.nodes.specs.declared.Turn.TheVariants.{Left, Right, Compare}
@@ -115,7 +115,7 @@ module _ (limits : Limits) (store : List ℕ) (x : Label) (link : ℕ) (row : Ro
     abbrev lowered : List ℕ
     lowered = set (set ends 1 c.place) 2 c.place
 
-    pub went_smaller : c.order ≡ Smaller → Went limits store x link row ends places false lowered (places + examined)
+    pub went_smaller : c.order ≡ Less → Went limits store x link row ends places false lowered (places + examined)
     went_smaller o =
         let three = held.three in
         let first = set ends 1 c.place in
@@ -128,7 +128,7 @@ module _ (limits : Limits) (store : List ℕ) (x : Label) (link : ℕ) (row : Ro
         compared false lowered (record { three = rw length-set long; again = s_behind ∙ sym s_there })
         (rw (p_there, s_there) (step_here _ (decide_smaller p s row.place c o)))
 
-    pub went_larger : c.order ≡ Larger
+    pub went_larger : c.order ≡ Greater
         → Went limits store x link row ends places true (set ends 0 c.place) (places + examined)
     went_larger o =
         let three = held.three in
@@ -140,7 +140,7 @@ module _ (limits : Limits) (store : List ℕ) (x : Label) (link : ℕ) (row : Ro
         (rw (p_there, s_there) (step_here _ (decide_larger p s row.place c o)))
 
     -- the label is found
-    pub ended_same : c.order ≡ Same → stop examined ≡ row_step limits store x link row p s
+    pub ended_same : c.order ≡ Equal → stop examined ≡ row_step limits store x link row p s
     ended_same o = step_here _ (decide_same p s row.place c o)
 
 -- the nearest nodes, after the walk went past the node in a slot
@@ -149,7 +149,7 @@ pub record Passed (near : List ℕ) (slot : ℕ) (right : Bool) (after : List �
   pub below : get_or after 1 0 ≡ below_after right slot (get_or near 1 0)
   pub above : get_or after 0 0 ≡ above_after right slot (get_or near 0 0)
 
-pub near_after : (near : List ℕ) (slot : ℕ) (right : Bool) (index : ℕ) → index ≡ one_if right → length near ≡ 2
+pub near_after : (near : List ℕ) (slot : ℕ) (right : Bool) (index : ℕ) → index ≡ from_bool right → length near ≡ 2
     → Passed near slot right (set near index slot)
 near_after near slot true index e two =
     rw e (record {

@@ -1,9 +1,10 @@
 -- What is left of a walk, with the counts that the code keeps: its answer where it halts, and from a link on.
-use Rattle.std.specs.Prelude.{List, cond, ℕ, ◌+◌, ◌-◌, length, get_or, eqb}
+use Rattle.std.specs.Prelude.{List, cond, ℕ, ◌+◌, ◌-◌, length, get_or, eqb, Result, Ok, Err}
 use Rattle.std.proofs.Math.Option.{Option, none, some}
 use Rattle.types.specs.declared.Limits.{Limits}
-use Rattle.types.specs.declared.SearchAnswer.{SearchAnswer}
-use Rattle.types.specs.declared.SearchAnswer.TheVariants.{Absent, Refused}
+use Rattle.types.specs.declared.Searched.{Searched}
+use Rattle.types.specs.declared.Searched.TheVariants.{Absent}
+use Rattle.types.specs.declared.Refusal.{Refusal}
 use Rattle.types.specs.declared.Refusal.TheVariants.{BrokenWalk}
 use Rattle.types.specs.Answers.{Answer, refused}
 use Rattle.labels.specs.Labels.{Label}
@@ -12,8 +13,9 @@ use Rattle.tables.specs.Steps.{Walk, broken, ended, steps}
 use Rattle.tables.specs.Outcomes.{answer_of}
 
 -- the answer where no node is visited
-abbrev pub halted_at : (link below above visits places : ℕ) → SearchAnswer
-halted_at link below above visits places = cond (eqb link 0) (Absent below above visits places) (Refused BrokenWalk)
+abbrev pub halted_at : (link below above visits places : ℕ) → Result Searched Refusal
+halted_at link below above visits places =
+    cond (eqb link 0) (Ok (Absent below above visits places)) (Err BrokenWalk)
 
 -- the slot of the last node on a side: that of the rest of a walk, if it has one, or the one before
 abbrev pub slot_after : (before : ℕ) (later : Option Entry) → ℕ

@@ -1,3 +1,4 @@
+use Rattle.nodes.proofs.Turns.{compared_row}
 use Rattle.nodes.proofs.Yields.{visit_left, visit_right, visit_compared}
 use Rattle.nodes.proofs.visit.Goals as goal
 
@@ -8,4 +9,4 @@ pub returns-in-Right-clause-value : goal.returns-in-Right-clause-value
 returns-in-Right-clause-value c = search visit_right
 
 pub returns-in-Compare-clause-value : goal.returns-in-Compare-clause-value
-returns-in-Compare-clause-value c = search visit_compared
+returns-in-Compare-clause-value c = search (visit_compared, compared_row)
