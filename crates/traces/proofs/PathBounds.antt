@@ -3,10 +3,12 @@
 -- `can_lengthen`: so the code may add a side.
 use mathlib.Core.List.{List}
 use mathlib.Core.Path.{◌≡◌, refl}
+use mathlib.Core.Bool.{Bool, true, false}
 use Prim.Native.Nat.{ℕ, zero, suc, ◌-◌, ◌^◌, ◌≤◌}
 use native.Mathlib.Nat.{two-pow-succ, pow-le-pow_right}
 use native.Mathlib.Numerals.{add-one}
 use native.Mathlib.Omega.{arith}
+use Rattle.std.specs.Int.{from_bool}
 use Rattle.types.specs.declared.Limits.{Limits}
 use Rattle.types.specs.declared.Row.{Row}
 use Rattle.labels.specs.Labels.{Label}
@@ -50,11 +52,17 @@ module _ (limits : Limits) (table store : List ℕ) (x : Label) where
       (λ going. path_by (node_step limits table store x w) w (row_at table w.link)
       (trace_from limits table store x remaining) (path_fits remaining))
 
+-- a side's bit
+bit_small : (right : Bool) → from_bool right ≤ 1
+bit_small true = omega arith
+bit_small false = omega arith
+
 -- the code may add a side to the trace of a search that goes on from w at v
-pub can_lengthen : (limits : Limits) (table store : List ℕ) (x : Label) (w v : Spot) (bit : ℕ) (trace : Trace)
-    → CanTrace limits table store w → Onward w v → trace ≡ trace_on limits table store x v → bit ≤ 1
-    → CanLengthen bit trace
-can_lengthen limits table store x w v bit trace can onward is small =
+pub can_lengthen : (limits : Limits) (table store : List ℕ) (x : Label) (w v : Spot) (bit : ℕ) (right : Bool)
+    (trace : Trace) → CanTrace limits table store w → Onward w v → trace ≡ trace_on limits table store x v
+    → bit ≡ from_bool right → CanLengthen bit trace
+can_lengthen limits table store x w v bit right trace can onward is side =
+    let small : bit ≤ 1 = omega (arith, bit_small right) in
     let fits : PathFits (limits.depth - v.visits) trace =
     rw is (path_fits limits table store x (limits.depth - v.visits) v) in
     let few : suc trace.length ≤ 64 = omega arith in

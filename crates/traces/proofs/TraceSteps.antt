@@ -3,20 +3,23 @@
 -- `by_test`: what holds of both holds of the trace.
 -- `trace_halted`, `trace_found`, `trace_onward`: so, from what the code knows.
 use mathlib.Core.List.{List}
-use mathlib.Core.Bool.{Bool, true, false, false≢true, true≢false}
+use mathlib.Core.Bool.{Bool, true, false}
 use mathlib.Core.Path.{◌≡◌, refl, sym, ◌∙◌}
 use Prim.Native.Nat.{ℕ, zero, suc, ◌+◌, ◌-◌}
 use native.Mathlib.Omega.{arith}
 use borrow.Author.Tests.{eq-eqb}
+use Rattle.std.specs.Int.{from_bool}
 use Rattle.types.specs.declared.Limits.{Limits}
 use Rattle.types.specs.declared.Row.{Row}
 use Rattle.labels.specs.Labels.{Label}
-use Rattle.trees.specs.Valid.{one_if}
+use Rattle.labels.proofs.Clashes.{clash}
 use Rattle.tables.specs.Words.{row_at}
 use Rattle.tables.specs.Steps.{Step, go_left, go_right, stop}
 use Rattle.nodes.specs.declared.Spot.{Spot}
+use Rattle.nodes.specs.declared.Move.{Move}
 use Rattle.nodes.specs.declared.Step as code
-use Rattle.nodes.specs.Nodes.{halts_at, step_from, row_step, node_step, son_of, spot_after}
+use Rattle.nodes.specs.declared.Step.TheVariants.{Found, Onward}
+use Rattle.nodes.specs.Nodes.{halts_at, step_onward, step_from, row_step, node_step, son_of, spot_after}
 use Rattle.nodes.proofs.Rows.{live}
 use Rattle.traces.specs.declared.Trace.{Trace}
 use Rattle.traces.specs.Traces.{ended_at, found_at, longer, trace_by, trace_from, trace_on}
@@ -79,27 +82,27 @@ module _ (limits : Limits) (table store : List ℕ) (x : Label) (w : Spot) where
           rw (remaining, read) (trace_at_node (limits.depth - (w.visits + 1)) going)
 
       -- where the label is found, the search ends
-      pub trace_found : t.found ≡ true → r ≡ found_at w t.examined → r ≡ trace_on limits table store x w
-      trace_found is e = e ∙ rw step (sym (trace_stepped ∙ go here (rw step at is)))
+      pub trace_found : (examined : ℕ) → t ≡ Found examined → r ≡ found_at w examined
+          → r ≡ trace_on limits table store x w
+      trace_found examined is e = e ∙ sym (trace_stepped ∙ go here (sym step ∙ is))
         where
-          go : (d : Step) → (step_from w w.link d).found ≡ true
-              → trace_by d w row further ≡ found_at w (step_from w w.link d).examined
-          go (go_left p s examined) is = absurd (false≢true is)
-          go (go_right p s examined) is = absurd (false≢true is)
-          go (stop examined) is = refl
+          go : (d : Step) → step_from w w.link d ≡ Found examined → trace_by d w row further ≡ found_at w examined
+          go (go_left p s few) is = clash cc
+          go (go_right p s few) is = clash cc
+          go (stop few) is = let same : few ≡ examined = cc in rw same
 
       -- elsewhere it goes on from the spot after the step
-      pub trace_onward : (v : Spot) (bit : ℕ) (deeper : Trace) → t.found ≡ false → v ≡ spot_after w row t
-          → bit ≡ one_if t.right → deeper ≡ trace_on limits table store x v → r ≡ longer bit deeper
+      pub trace_onward : (m : Move) (v : Spot) (bit : ℕ) (deeper : Trace) → t ≡ Onward m → v ≡ spot_after w row m
+          → bit ≡ from_bool m.right → deeper ≡ trace_on limits table store x v → r ≡ longer bit deeper
           → r ≡ trace_on limits table store x w
       unfolding son_of
-      trace_onward v bit deeper on next side beyond e =
-          e ∙ rw (beyond, side, next, step) (sym (trace_stepped ∙ go here (rw step at on)))
+      trace_onward m v bit deeper on next side beyond e =
+          e ∙ rw (beyond, side, next) (sym (trace_stepped ∙ go here (sym step ∙ on)))
         where
-          go : (d : Step) → (step_from w w.link d).found ≡ false
-              → trace_by d w row further
-              ≡ longer (one_if (step_from w w.link d).right)
-              (further (spot_after w row (step_from w w.link d)))
-          go (go_left p s examined) on = refl
-          go (go_right p s examined) on = refl
-          go (stop examined) on = absurd (true≢false on)
+          go : (d : Step) → step_from w w.link d ≡ Onward m
+              → trace_by d w row further ≡ longer (from_bool m.right) (further (spot_after w row m))
+          go (go_left p s few) on =
+              let same : step_onward w w.link false p s few ≡ m = cc in rw (← same)
+          go (go_right p s few) on =
+              let same : step_onward w w.link true p s few ≡ m = cc in rw (← same)
+          go (stop few) on = clash cc

@@ -5,7 +5,7 @@ ghost use Rattle.traces.specs.Traces.{ended_at, found_at, longer, trace_on, trac
 ghost use Rattle.traces.specs.Traces.{CanTrace, CanEnd, CanLengthen, TraceFits};
 
 use crate::Trace;
-use nodes::Spot;
+use nodes::{Spot, Step};
 use types::Limits;
 
 // The trace of a search that ends without the label.
@@ -32,14 +32,9 @@ fn found(spot: Spot, examined: usize) -> Trace
 {
     Trace {
         found: spot.link as u16,
-        p: spot.p,
-        s: spot.s,
-        below: spot.below,
-        above: spot.above,
-        path: 0,
-        length: 0,
         visits: spot.visits + 1,
         places: spot.places + examined,
+        ..ended(spot)
     }
 }
 
@@ -49,15 +44,9 @@ fn longer(bit: usize, trace: Trace) -> Trace
     ensures { result ≡ longer bit trace }
 {
     Trace {
-        found: trace.found,
-        p: trace.p,
-        s: trace.s,
-        below: trace.below,
-        above: trace.above,
         path: bit + 2 * trace.path,
         length: trace.length + 1,
-        visits: trace.visits,
-        places: trace.places,
+        ..trace
     }
 }
 
@@ -70,13 +59,14 @@ fn trace_from(limits: Limits, table: &[u16], store: &[u8], label: &[u8], spot: S
         return ended(spot);
     }
     let row = words::read_row(table, spot.link);
-    let step = nodes::visit(limits, store, label, spot, row);
-    if step.found {
-        return found(spot, step.examined);
+    match nodes::visit(limits, store, label, spot, row) {
+        Step::Found { examined } => found(spot, examined),
+        Step::Onward(step) => {
+            let next = nodes::after(spot, row, step);
+            let deeper = trace_from(limits, table, store, label, next);
+            longer(usize::from(step.right), deeper)
+        }
     }
-    let next = nodes::after(spot, row, step);
-    let deeper = trace_from(limits, table, store, label, next);
-    longer(nodes::one_if(step.right), deeper)
 }
 
 // The trace of the search for a label. On a table that is not sound it may end at a broken walk, as if the label were

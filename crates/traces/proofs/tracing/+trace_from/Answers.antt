@@ -12,14 +12,14 @@ returns-then-halts t c = search trace_halted
 pub read_row-row-requires : goal.read_row-row-requires
 read_row-row-requires t c = search live_row
 
-pub visit-step-requires : goal.visit-step-requires
-visit-step-requires t c = search live_slot
+pub visit-requires : goal.visit-requires
+visit-requires t c = search live_slot
 
 pub found-requires : goal.found-requires
 found-requires t c = search (can_end, live)
 
-pub returns-then-step : goal.returns-then-step
-returns-then-step t c = search trace_found
+pub returns-in-Found : goal.returns-in-Found
+returns-in-Found t c = search trace_found
 
 pub trace_from-deeper-requires : goal.trace_from-deeper-requires
 trace_from-deeper-requires t c =
@@ -32,8 +32,7 @@ trace_from-deeper-requires t c =
 
 pub longer-requires : goal.longer-requires
 longer-requires t c =
-    can_lengthen _ _ _ _ _ _ _ _ c.requires c.after-next.ensures.onward c.trace_from-deeper.ensures
-    c.one_if.ensures.upper_bound
+    can_lengthen _ _ _ _ _ _ _ _ _ c.requires c.after-next.ensures.onward c.trace_from-deeper.ensures c.from.ensures
 
-pub returns : goal.returns
-returns t c = search trace_onward
+pub returns-in-Onward : goal.returns-in-Onward
+returns-in-Onward t c = search trace_onward
