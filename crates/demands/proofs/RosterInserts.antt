@@ -13,7 +13,7 @@ use Rattle.tables.specs.Written.{Memory}
 use Rattle.tables.specs.Outcomes.{insert_outcome}
 use Rattle.tables.specs.Claims.{call_outcome, after_list}
 use Rattle.tables.specs.MapClaims.{Said, said, accepted, refused_by}
-use Rattle.files.specs.FileReads.{EntryRead, no_entry_lem, entry}
+use Rattle.files.specs.FileReads.{EntryRead, no_entry, entry}
 use Rattle.rfc4180.specs.Rosters.{RosterOutcome, stopped_at, roster_from}
 use Rattle.demands.specs.Loads.{AllAccepted}
 use Rattle.demands.specs.Rosters.{inserts_to, FirstRefused}
@@ -51,7 +51,7 @@ module _ (limits : Limits) where
   unfolding roster_from insert_outcome
   enters before [] m =
       record { n = 0; many = refl; accepts = tt; left = refl; ends = all_in before (omega arith) refl }
-  enters before (no_entry_lem ∷ more) m = record {
+  enters before (no_entry ∷ more) m = record {
     n = 0;
     many = refl;
     accepts = tt;

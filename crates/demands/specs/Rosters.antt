@@ -9,7 +9,7 @@ use Rattle.tables.specs.Written.{Memory}
 use Rattle.tables.specs.Outcomes.{pass, refuse, of_memory, insert_outcome, layout_outcome}
 use Rattle.tables.specs.Claims.{Sound, after_list, CallsAgree}
 use Rattle.tables.specs.MapClaims.{said, refused_by}
-use Rattle.files.specs.FileReads.{EntryRead, no_entry_lem, entry}
+use Rattle.files.specs.FileReads.{EntryRead, no_entry, entry}
 use Rattle.rfc4180.specs.Records.{records_of}
 use Rattle.rfc4180.specs.Rosters.{longest_text, RosterOutcome, stopped_at, of_text, roster_outcome}
 use Rattle.demands.specs.Loads.{Lent, AllAccepted}
@@ -22,7 +22,7 @@ roster_of limits m text = roster_outcome limits m.table m.store text
 abbrev pub inserts_to : (n : ℕ) → List EntryRead → List Call
 inserts_to zero entries = []
 inserts_to (suc n) [] = []
-inserts_to (suc n) (no_entry_lem ∷ more) = []
+inserts_to (suc n) (no_entry ∷ more) = []
 inserts_to (suc n) (entry x value rest ∷ more) = insert x value ∷ inserts_to n more
 
 -- records 1 to n of a text went in
@@ -37,7 +37,7 @@ pub record Entered (limits : Limits) (m : Memory) (text : List ℕ) (n : ℕ) : 
 -- the first of the records that are left is refused by a number: by 13, or by that of its insert
 abbrev pub FirstRefused : Limits → Memory → List EntryRead → (number : ℕ) → Type 0
 FirstRefused limits m [] number = ⊥
-FirstRefused limits m (no_entry_lem ∷ more) number = number ≡ 13
+FirstRefused limits m (no_entry ∷ more) number = number ≡ 13
 FirstRefused limits m (entry x value rest ∷ more) number =
     said (insert_outcome limits m.table m.store x value).answer ≡ refused_by number
 

@@ -17,7 +17,7 @@ use Rattle.labels.proofs.Numbers.{Ltb, lt_yes, lt_no, ltb_view}
 use Rattle.tables.specs.Claims.{LabelFits}
 use Rattle.files.specs.Groups.{groups_of, NumberRead}
 use Rattle.files.specs.Files.{entry_of, largest_word}
-use Rattle.files.specs.FileReads.{OfBytes, take_number, EntryRead, no_entry_lem, entry, with_value, with_bytes}
+use Rattle.files.specs.FileReads.{OfBytes, take_number, EntryRead, no_entry, entry, with_value, with_bytes}
 use Rattle.files.specs.FileReads.{take_entry}
 use Rattle.files.proofs.FileNumbers.{bytes_after, NumberTaken, untaken, taken}
 use Rattle.files.proofs.FileNumbers.{taken_view, take_groups}
@@ -37,7 +37,7 @@ entry_of_parts text rest after n value long front back =
 module _ (limits : Limits) where
   -- a label that is taken fits, its value is a word, and in bytes its entry stands in front
   pub data EntryTaken (text : List ℕ) : EntryRead → Type 0 where
-    no_entry_taken : EntryTaken text no_entry_lem
+    no_entry_taken : EntryTaken text no_entry
     entry_taken : (x : Label) (value : ℕ) (rest : List ℕ) → LabelFits limits x → value ≤ largest_word
         → (OfBytes text → text ≡ entry_of x value ++ rest) → EntryTaken text (entry x value rest)
 
@@ -62,7 +62,7 @@ module _ (limits : Limits) where
       where
         by_room : {b : Bool} (n : ℕ) (rest : List ℕ) → 1 ≤ n → n ≤ limits.width
             → (OfBytes text → text ≡ groups_of n ++ rest) → Ltb (length rest) n b
-            → EntryTaken text (cond b no_entry_lem (with_value (take n rest) (take_number 0 largest_word (drop n rest))))
+            → EntryTaken text (cond b no_entry (with_value (take n rest) (take_number 0 largest_word (drop n rest))))
         by_room n rest some short whole (lt_yes cut) = no_entry_taken
         by_room n rest some short whole (lt_no room) =
             entry_by_value n rest some short room whole (taken_view 0 largest_word (drop n rest))

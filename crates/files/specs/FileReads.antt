@@ -34,18 +34,18 @@ take_number lowest highest text = number_within lowest highest text (read_number
 -- ---- a label with its value
 
 pub data EntryRead : Type 0 where
-  no_entry_lem : EntryRead
+  no_entry : EntryRead
   entry : (x : Label) (value : ℕ) (rest : List ℕ) → EntryRead
 
 abbrev pub with_value : Label → NumberRead → EntryRead
-with_value x no_number = no_entry_lem
+with_value x no_number = no_entry
 with_value x (number value rest) = entry x value rest
 
 -- "or a label that is cut short"
 abbrev pub with_bytes : NumberRead → EntryRead
-with_bytes no_number = no_entry_lem
+with_bytes no_number = no_entry
 with_bytes (number n rest) =
-    cond (ltb (length rest) n) no_entry_lem (with_value (take n rest) (take_number 0 largest_word (drop n rest)))
+    cond (ltb (length rest) n) no_entry (with_value (take n rest) (take_number 0 largest_word (drop n rest)))
 
 -- "that label's length, bytes and value": a length of 1 to the width, so many bytes, and a word
 unfoldable pub take_entry : Limits → List ℕ → EntryRead
@@ -67,7 +67,7 @@ filed x value = record { label = x; value = value; charge = unknown }
 
 -- "19, a label not above the one before it, after 18 for that label's length, bytes and value"; then what follows
 abbrev pub entry_then : EntryRead → (before : Label) → (Label → List ℕ → FileRead) → FileRead
-entry_then no_entry_lem before next = refused_by 18
+entry_then no_entry before next = refused_by 18
 entry_then (entry x value rest) before next =
     elim (is_smaller (compare_labels before x)) [
       | true ↦ with_pair (filed x value) (next x rest)

@@ -14,7 +14,7 @@ use Rattle.tables.specs.Written.{Memory, lent}
 use Rattle.tables.specs.Outcomes.{update_outcome, insert_outcome}
 use Rattle.tables.specs.Given.{Gives}
 use Rattle.tables.specs.Claims.{Sound, after_list}
-use Rattle.files.specs.FileReads.{EntryRead, no_entry_lem, entry, take_entry}
+use Rattle.files.specs.FileReads.{EntryRead, no_entry, entry, take_entry}
 use Rattle.files.proofs.FileEntries.{entry_fits}
 use Rattle.demands.proofs.OrderedMap.{ordered_map}
 use Rattle.scans.specs.declared.Entry.{Entry}
@@ -67,7 +67,7 @@ module _ (limits : Limits) (file : List ℕ) (whole : Memory) (table store : Lis
         (λ (b : Bool).
         after_list limits
         (call_then
-        (cond b (entry (part_of file e.start e.end) e.value (drop e.next file)) no_entry_lem)
+        (cond b (entry (part_of file e.start e.end) e.value (drop e.next file)) no_entry)
         (λ rest. calls_in limits (remaining - 1) rest))
         (lent table store)) (sym broken)
         ∙ by_next (remaining - 1) (omega arith))
@@ -79,7 +79,7 @@ module _ (limits : Limits) (file : List ℕ) (whole : Memory) (table store : Lis
       read_whole =
           sym read
           ∙ ap
-          (λ (b : Bool). cond b (entry (part_of file e.start e.end) e.value (drop e.next file)) no_entry_lem)
+          (λ (b : Bool). cond b (entry (part_of file e.start e.end) e.value (drop e.next file)) no_entry)
           is_whole
 
       -- Its label can be inserted.

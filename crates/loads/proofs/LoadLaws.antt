@@ -22,7 +22,7 @@ use Rattle.lengths.specs.declared.Early.{Early}
 use Rattle.lengths.specs.declared.Early.TheVariants.{Pass, Refused}
 use Rattle.lengths.specs.Early.{early_says}
 use Rattle.lengths.proofs.FirstLines.{memory_refused, memory_passed, sizes_fit}
-use Rattle.files.specs.FileReads.{EntryRead, no_entry_lem, entry, FileRead, refused_by, holds, with_pair, filed, entry_then}
+use Rattle.files.specs.FileReads.{EntryRead, no_entry, entry, FileRead, refused_by, holds, with_pair, filed, entry_then}
 use Rattle.files.specs.FileReads.{at_end, take_number, take_entry, take_entries, count_then, read_file}
 use Rattle.files.specs.Loads.{inserts_of, loading_by, load_outcome, Loads}
 use Rattle.demands.proofs.Outcomes.{memory_passes}
@@ -53,7 +53,7 @@ with_entry : (limits : Limits) (count : ℕ) (text : List ℕ) (read : EntryRead
     → entry_then read before (λ x rest. take_entries limits count x rest) ≡ holds pairs
     → Inserts limits (suc count) text pairs
 unfolding calls_in
-with_entry limits count text no_entry_lem before pairs is later taken = clash cc
+with_entry limits count text no_entry before pairs is later taken = clash cc
 with_entry limits count text (entry x value rest) before pairs is later taken =
     by_order (is_smaller (compare_labels before x)) (take_entries limits count x rest) refl taken
   where

@@ -4,11 +4,11 @@ use Rattle.types.specs.declared.Limits.{Limits}
 use Rattle.types.specs.Sizes.{table_length, store_length}
 use Rattle.trees.specs.Plain.{Call, insert}
 use Rattle.tables.specs.Written.{Memory}
-use Rattle.files.specs.FileReads.{EntryRead, no_entry_lem, entry, take_entry}
+use Rattle.files.specs.FileReads.{EntryRead, no_entry, entry, take_entry}
 use Rattle.endings.specs.Ready.{EditsFit}
 
 abbrev pub call_then : EntryRead → (List ℕ → List Call) → List Call
-call_then no_entry_lem next = []
+call_then no_entry next = []
 call_then (entry x value rest) next = insert x value ∷ next rest
 
 -- the inserts of so many entries, up to the first that is not whole

@@ -11,7 +11,7 @@ use mathlib.Core.Path.{◌≡◌, refl, sym, ap, ◌∙◌}
 use Prim.Native.Nat.{ℕ, ◌+◌, ◌≤◌}
 use borrow.Author.Tests.{not-true, not-false}
 use lib.ListN.{length, drop}
-use Rattle.files.specs.FileReads.{no_entry_lem}
+use Rattle.files.specs.FileReads.{no_entry}
 use Rattle.rfc4180.specs.Grammar.{comma}
 use Rattle.rfc4180.specs.Records.{field, take_field, take_record}
 use Rattle.records.specs.declared.Record.{Record}
@@ -24,7 +24,7 @@ use Rattle.records.proofs.PlaceLaws.{byte_and_rest, stands_inside}
 use Rattle.records.proofs.TwoFields.{record_by_label}
 
 -- with no comma after it, a first field makes no record
-no_comma : (x rest : List ℕ) → starts_with comma rest ≡ false → no_entry_lem ≡ label_then (field x rest)
+no_comma : (x rest : List ℕ) → starts_with comma rest ≡ false → no_entry ≡ label_then (field x rest)
 no_comma x [] other = refl
 no_comma x (byte ∷ rest) other = rw (other, label_then)
 

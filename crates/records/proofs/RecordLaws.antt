@@ -15,7 +15,7 @@ use lib.ListN.{length, drop}
 use Rattle.labels.specs.Labels.{Label}
 use Rattle.decimals.specs.declared.Value as value
 use Rattle.decimals.specs.Values.{value_says, value_of}
-use Rattle.files.specs.FileReads.{no_entry_lem, entry}
+use Rattle.files.specs.FileReads.{no_entry, entry}
 use Rattle.rfc4180.specs.Records.{take_field}
 use Rattle.records.specs.declared.Record.{Record}
 use Rattle.records.specs.declared.Content.{Content}
@@ -28,7 +28,7 @@ use Rattle.records.specs.Contents.{no_record, record_says, RecordInside}
 use Rattle.records.proofs.PartLaws.{none_inside}
 
 -- without a value there is no record, wherever it ends
-no_value : (x : Label) (end : Option (List ℕ)) → no_entry_lem ≡ end_then x none end
+no_value : (x : Label) (end : Option (List ℕ)) → no_entry ≡ end_then x none end
 no_value x none = refl
 no_value x (some rest) = refl
 

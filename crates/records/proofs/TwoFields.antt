@@ -9,7 +9,7 @@ use lib.Dec.{eqb}
 use borrow.Author.Tests.{eqb-true}
 use lib.ListN.{length}
 use Rattle.decimals.specs.Values.{value_of}
-use Rattle.files.specs.FileReads.{no_entry_lem}
+use Rattle.files.specs.FileReads.{no_entry}
 use Rattle.rfc4180.specs.Grammar.{comma, cr, lf}
 use Rattle.rfc4180.specs.Records.{FieldRead, no_field, field, take_field, FieldsRead, no_fields, fields_of, with_field}
 use Rattle.rfc4180.specs.Records.{line_ended, field_then, take_fields_with, take_fields, as_entry, take_record}
@@ -19,23 +19,23 @@ use Rattle.records.specs.Contents.{line_end, end_then, value_then, label_then}
 
 -- a third field, whatever comes after it, makes no record
 three : (x y z : List ℕ) (later : FieldsRead)
-    → as_entry (with_field x (with_field y (with_field z later))) ≡ no_entry_lem
+    → as_entry (with_field x (with_field y (with_field z later))) ≡ no_entry
 three x y z no_fields = refl
 three x y z (fields_of fields rest) = refl
 
 three_by_line : (x y z : List ℕ) (byte : ℕ) (rest : List ℕ)
-    → as_entry (with_field x (with_field y (line_ended z byte rest))) ≡ no_entry_lem
+    → as_entry (with_field x (with_field y (line_ended z byte rest))) ≡ no_entry
 three_by_line x y z byte [] = refl
 three_by_line x y z byte (next ∷ rest) = by_line (eqb byte cr && eqb next lf)
   where
     by_line : (ended : Bool)
         → as_entry (with_field x (with_field y (elim ended [ true ↦ fields_of (z ∷ []) rest | false ↦ no_fields ])))
-        ≡ no_entry_lem
+        ≡ no_entry
     by_line true = refl
     by_line false = refl
 
 three_by_field : (x y : List ℕ) (third : FieldRead) (next : List ℕ → FieldsRead)
-    → as_entry (with_field x (with_field y (field_then third next))) ≡ no_entry_lem
+    → as_entry (with_field x (with_field y (field_then third next))) ≡ no_entry
 three_by_field x y no_field next = refl
 three_by_field x y (field z []) next = refl
 three_by_field x y (field z (byte ∷ rest)) next = by_comma (eqb byte comma)
@@ -43,13 +43,13 @@ three_by_field x y (field z (byte ∷ rest)) next = by_comma (eqb byte comma)
     by_comma : (more : Bool)
         → as_entry (with_field x (with_field y
         (elim more [ true ↦ with_field z (next rest) | false ↦ line_ended z byte rest ])))
-        ≡ no_entry_lem
+        ≡ no_entry
     by_comma true = three x y z (next rest)
     by_comma false = three_by_line x y z byte rest
 
 -- further fields after two make no record
 too_many : (x y : List ℕ) (most : ℕ) (rest : List ℕ)
-    → as_entry (with_field x (with_field y (take_fields_with most rest))) ≡ no_entry_lem
+    → as_entry (with_field x (with_field y (take_fields_with most rest))) ≡ no_entry
 unfolding take_fields_with
 too_many x y zero rest = refl
 too_many x y (suc most) rest = three_by_field x y (take_field rest) (λ more. take_fields_with most more)
@@ -89,12 +89,12 @@ two_by_field x (field y (byte ∷ rest)) most = by_comma (eqb byte comma) refl
 -- ---- a record
 
 -- one field makes no record
-one_by_line : (x : List ℕ) (byte : ℕ) (rest : List ℕ) → as_entry (line_ended x byte rest) ≡ no_entry_lem
+one_by_line : (x : List ℕ) (byte : ℕ) (rest : List ℕ) → as_entry (line_ended x byte rest) ≡ no_entry
 one_by_line x byte [] = refl
 one_by_line x byte (next ∷ rest) = by_line (eqb byte cr && eqb next lf)
   where
     by_line : (ended : Bool)
-        → as_entry (elim ended [ true ↦ fields_of (x ∷ []) rest | false ↦ no_fields ]) ≡ no_entry_lem
+        → as_entry (elim ended [ true ↦ fields_of (x ∷ []) rest | false ↦ no_fields ]) ≡ no_entry
     by_line true = refl
     by_line false = refl
 
@@ -107,7 +107,7 @@ one_by_field (field x (byte ∷ rest)) most = by_comma (eqb byte comma)
   where
     by_comma : (more : Bool)
         → as_entry (elim more [ true ↦ with_field x (take_fields_with (suc most) rest) | false ↦ line_ended x byte rest ])
-        ≡ elim more [ true ↦ value_then x (take_field rest) | false ↦ no_entry_lem ]
+        ≡ elim more [ true ↦ value_then x (take_field rest) | false ↦ no_entry ]
     by_comma true = two_by_field x (take_field rest) most
     by_comma false = one_by_line x byte rest
 

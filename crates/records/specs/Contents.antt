@@ -3,7 +3,7 @@ use Rattle.std.specs.Prelude.{Bool, true, false, ◌&&◌, cond, List, [], ◌�
 use Rattle.std.proofs.Math.Option.{Option, none, some}
 use Rattle.labels.specs.Labels.{Label}
 use Rattle.decimals.specs.Values.{value_of}
-use Rattle.files.specs.FileReads.{EntryRead, no_entry_lem, entry}
+use Rattle.files.specs.FileReads.{EntryRead, no_entry, entry}
 use Rattle.rfc4180.specs.Grammar.{comma, cr, lf, dquote, is_inner}
 use Rattle.rfc4180.specs.Records.{FieldRead, no_field, field, take_field, with_value}
 use Rattle.records.specs.declared.Record.{Record}
@@ -114,26 +114,26 @@ pub record LabelRead (text : List ℕ) (label : Content) (at : ℕ) : Type 0 whe
 
 -- a record by its label and the field after it: its value, and its end
 abbrev pub end_then : Label → Option ℕ → Option (List ℕ) → EntryRead
-end_then x value none = no_entry_lem
+end_then x value none = no_entry
 end_then x value (some rest) = with_value x value rest
 
 abbrev pub value_then : Label → FieldRead → EntryRead
-value_then x no_field = no_entry_lem
+value_then x no_field = no_entry
 value_then x (field value rest) = end_then x (value_of value) (line_end rest)
 
 -- a record by its first field: a comma and another field
 abbrev pub label_then : FieldRead → EntryRead
-label_then no_field = no_entry_lem
-label_then (field x []) = no_entry_lem
+label_then no_field = no_entry
+label_then (field x []) = no_entry
 label_then (field x (byte ∷ rest)) =
-    elim (eqb byte comma) [ true ↦ value_then x (take_field rest) | false ↦ no_entry_lem ]
+    elim (eqb byte comma) [ true ↦ value_then x (take_field rest) | false ↦ no_entry ]
 
 -- a record that is not whole
 abbrev pub no_record : Record
 no_record = record { whole = false; label = no_content; value = 0; next = 0 }
 
 abbrev pub record_says : (text : List ℕ) → Record → EntryRead
-record_says text r = cond r.whole (entry (content_in text r.label) r.value (drop r.next text)) no_entry_lem
+record_says text r = cond r.whole (entry (content_in text r.label) r.value (drop r.next text)) no_entry
 
 -- a record whose label and whose end lie inside the text
 pub record RecordInside (text : List ℕ) (r : Record) : Type 0 where

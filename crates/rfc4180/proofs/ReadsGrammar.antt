@@ -6,7 +6,7 @@ use Prim.Native.Nat.{ℕ, zero, suc, ◌≤◌, ◌<◌}
 use native.Mathlib.Omega.{arith}
 use lib.ListN.{length}
 use Rattle.labels.specs.Labels.{Label}
-use Rattle.files.specs.FileReads.{EntryRead, no_entry_lem, entry}
+use Rattle.files.specs.FileReads.{EntryRead, no_entry, entry}
 use Rattle.rfc4180.specs.Grammar.{File}
 use Rattle.rfc4180.specs.Records.{fields_of, take_fields, as_entry, take_record}
 use Rattle.rfc4180.specs.Records.{record_then, records_with, records_of}
@@ -32,7 +32,7 @@ read_file_lem (File.one_more fields records byte more rest front file) =
   where
     by_record : (r : EntryRead) → as_entry (fields_of fields rest) ≡ r → ReadAs records (records_of rest)
         → ReadAs (fields ∷ records) (record_then r (λ after. records_of after))
-    by_record no_entry_lem is later = ReadAs.wrong fields records rest is
+    by_record no_entry is later = ReadAs.wrong fields records rest is
     by_record (entry x value after) is later =
         let same : after ≡ rest = same_rest fields rest x value after is in
         rw same (ReadAs.one_more fields records x value rest (records_of rest) (is ∙ ap (entry x value) same) later)
@@ -59,7 +59,7 @@ file_of_whole (suc most) (byte ∷ more) few whole =
         → Derived rest (records_with most rest))
         → AllWhole (record_then r (λ rest. records_with most rest))
         → Derived (byte ∷ more) (record_then r (λ rest. records_with most rest))
-    by_record no_entry_lem is later refused = elim refused [ ]
+    by_record no_entry is later refused = elim refused [ ]
     by_record (entry x value rest) is later (AllWhole.one_more _ _ _ _ whole_rest) =
         let two = two_fields (take_fields (byte ∷ more)) x value rest is in
         let fewer : length rest < length (byte ∷ more) = rest_shorter (byte ∷ more) x value rest is in

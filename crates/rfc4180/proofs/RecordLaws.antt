@@ -14,7 +14,7 @@ use lib.ListN.{length}
 use Rattle.labels.specs.Labels.{Label}
 use Rattle.labels.proofs.Clashes.{clash}
 use Rattle.decimals.specs.Values.{value_of}
-use Rattle.files.specs.FileReads.{EntryRead, no_entry_lem, entry}
+use Rattle.files.specs.FileReads.{EntryRead, no_entry, entry}
 use Rattle.rfc4180.specs.Records.{FieldsRead, no_fields, fields_of, take_fields, with_value, as_entry, take_record}
 use Rattle.rfc4180.specs.Records.{record_then, records_with, records_of}
 use Rattle.rfc4180.proofs.RecordsTaken.{only_at_front, two_fields_shorten}
@@ -63,7 +63,7 @@ records_same (suc most) (suc others) (byte ∷ more) fits fits_others =
         → ((rest : List ℕ) → length rest ≤ most → length rest ≤ others
         → records_with most rest ≡ records_with others rest)
         → record_then r (λ rest. records_with most rest) ≡ record_then r (λ rest. records_with others rest)
-    by_record no_entry_lem is later = refl
+    by_record no_entry is later = refl
     by_record (entry x value rest) is later =
         let fewer : length rest < length (byte ∷ more) = rest_shorter (byte ∷ more) x value rest is in
         ap (λ (l : List EntryRead). entry x value rest ∷ l) (later rest (omega arith) (omega arith))
@@ -83,7 +83,7 @@ records_of_some (byte ∷ more) some_byte = by_record (take_record (byte ∷ mor
   where
     by_record : (r : EntryRead) → take_record (byte ∷ more) ≡ r
         → record_then r (λ rest. records_with (length more) rest) ≡ record_then r (λ rest. records_with (length rest) rest)
-    by_record no_entry_lem is = refl
+    by_record no_entry is = refl
     by_record (entry x value rest) is =
         let fewer : length rest < length (byte ∷ more) = rest_shorter (byte ∷ more) x value rest is in
         ap (λ (l : List EntryRead). entry x value rest ∷ l)
@@ -98,7 +98,7 @@ with_within (suc most) (byte ∷ more) = by_record (take_record (byte ∷ more))
   where
     by_record : (r : EntryRead) → ((rest : List ℕ) → length (records_with most rest) ≤ most)
         → length (record_then r (λ rest. records_with most rest)) ≤ suc most
-    by_record no_entry_lem later = omega arith
+    by_record no_entry later = omega arith
     by_record (entry x value rest) later = omega (arith, later rest)
 
 -- The records are no more than the bytes.

@@ -2,7 +2,7 @@
 -- fields, and nothing else is taken.
 use Rattle.std.specs.Prelude.{List, [], ◌∷◌, ◌≡◌, ℕ}
 use Rattle.labels.specs.Labels.{Label}
-use Rattle.files.specs.FileReads.{EntryRead, no_entry_lem, entry}
+use Rattle.files.specs.FileReads.{EntryRead, no_entry, entry}
 use Rattle.rfc4180.specs.Grammar.{AtFront, File}
 use Rattle.rfc4180.specs.Records.{fields_of, take_fields, as_entry, records_of}
 
@@ -10,7 +10,7 @@ use Rattle.rfc4180.specs.Records.{fields_of, take_fields, as_entry, records_of}
 pub data ReadAs : (records : List (List (List ℕ))) (entries : List EntryRead) → Type 0 where
   none : ReadAs [] []
   wrong : (fields : List (List ℕ)) (records : List (List (List ℕ))) (rest : List ℕ)
-      → as_entry (fields_of fields rest) ≡ no_entry_lem → ReadAs (fields ∷ records) (no_entry_lem ∷ [])
+      → as_entry (fields_of fields rest) ≡ no_entry → ReadAs (fields ∷ records) (no_entry ∷ [])
   one_more : (fields : List (List ℕ)) (records : List (List (List ℕ))) (x : Label) (value : ℕ) (rest : List ℕ)
       (entries : List EntryRead) → as_entry (fields_of fields rest) ≡ entry x value rest → ReadAs records entries
       → ReadAs (fields ∷ records) (entry x value rest ∷ entries)

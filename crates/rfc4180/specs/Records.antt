@@ -3,7 +3,7 @@
 use Rattle.std.specs.Prelude.{true, false, ◌&&◌, List, [], ◌∷◌, ℕ, zero, suc, eqb, length, Option, Some, None}
 use Rattle.labels.specs.Labels.{Label}
 use Rattle.decimals.specs.Values.{value_of}
-use Rattle.files.specs.FileReads.{EntryRead, no_entry_lem, entry}
+use Rattle.files.specs.FileReads.{EntryRead, no_entry, entry}
 use Rattle.rfc4180.specs.Grammar.{comma, cr, lf, dquote, is_textdata, is_inner}
 
 -- ---- a field
@@ -73,17 +73,17 @@ take_fields text = take_fields_with (suc (length text)) text
 -- ---- a record of a roster
 
 abbrev pub with_value : Label → Option ℕ → (rest : List ℕ) → EntryRead
-with_value x None rest = no_entry_lem
+with_value x None rest = no_entry
 with_value x (Some value) rest = entry x value rest
 
 -- "13, a record that breaks RFC 4180's grammar .., has not exactly two fields, or whose value is not a decimal 0 to
 -- 65535 without needless leading zeros"
 abbrev pub as_entry : FieldsRead → EntryRead
-as_entry no_fields = no_entry_lem
-as_entry (fields_of [] rest) = no_entry_lem
-as_entry (fields_of (x ∷ []) rest) = no_entry_lem
+as_entry no_fields = no_entry
+as_entry (fields_of [] rest) = no_entry
+as_entry (fields_of (x ∷ []) rest) = no_entry
 as_entry (fields_of (x ∷ value ∷ []) rest) = with_value x (value_of value) rest
-as_entry (fields_of (x ∷ value ∷ third ∷ more) rest) = no_entry_lem
+as_entry (fields_of (x ∷ value ∷ third ∷ more) rest) = no_entry
 
 -- the label and the value of the record at the front of a text
 unfoldable pub take_record : List ℕ → EntryRead
@@ -92,7 +92,7 @@ take_record text = as_entry (take_fields text)
 -- ---- the records of a text
 
 abbrev pub record_then : EntryRead → (List ℕ → List EntryRead) → List EntryRead
-record_then no_entry_lem next = no_entry_lem ∷ []
+record_then no_entry next = no_entry ∷ []
 record_then (entry x value rest) next = entry x value rest ∷ next rest
 
 -- so many records at most

@@ -6,7 +6,7 @@ use Rattle.types.specs.RosterReplies.{RosterReply, taken, refused}
 use Rattle.tables.specs.Written.{Memory, lent}
 use Rattle.tables.specs.Outcomes.{Verdict, pass, refuse, line, of_memory, Outcome, insert_outcome}
 use Rattle.tables.specs.MapClaims.{said, accepted, refused_by}
-use Rattle.files.specs.FileReads.{EntryRead, no_entry_lem, entry}
+use Rattle.files.specs.FileReads.{EntryRead, no_entry, entry}
 use Rattle.rfc4180.specs.Records.{records_of}
 
 -- "a lent slice of at most 16,384 bytes"
@@ -25,7 +25,7 @@ stopped_at n number m = record { answer = refused n number; memory = m }
 -- the records after those that went in, 13 before the insert's own refusals
 unfoldable pub roster_from : Limits → (before : ℕ) → List EntryRead → Memory → RosterOutcome
 roster_from limits before [] m = record { answer = taken before; memory = m }
-roster_from limits before (no_entry_lem ∷ more) m = stopped_at (suc before) 13 m
+roster_from limits before (no_entry ∷ more) m = stopped_at (suc before) 13 m
 roster_from limits before (entry x value rest ∷ more) m =
     let o : Outcome = insert_outcome limits m.table m.store x value in
     elim (said o.answer) [

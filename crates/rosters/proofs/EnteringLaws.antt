@@ -15,7 +15,7 @@ use Rattle.types.specs.RosterReplies as reply
 use Rattle.labels.proofs.Clashes.{clash}
 use Rattle.tables.specs.Written.{lent}
 use Rattle.tables.specs.Given.{Gives}
-use Rattle.files.specs.FileReads.{EntryRead, no_entry_lem, entry}
+use Rattle.files.specs.FileReads.{EntryRead, no_entry, entry}
 use Rattle.rfc4180.specs.Records.{take_record, records_of}
 use Rattle.rfc4180.specs.Rosters.{RosterOutcome, roster_from, TakesRoster}
 use Rattle.rfc4180.proofs.RecordLaws.{rest_shorter, records_of_none, records_of_some}
@@ -40,7 +40,7 @@ entering_begins limits text table store buffer ready =
 
 -- what a record says, by whether it is whole
 abbrev says_by : (text : List ℕ) → Record → Bool → EntryRead
-says_by text r b = cond b (entry (content_in text r.label) r.value (drop r.next text)) no_entry_lem
+says_by text r b = cond b (entry (content_in text r.label) r.value (drop r.next text)) no_entry
 
 module _ (limits : Limits) (text : List ℕ) (whole : RosterOutcome) (table store buffer : List ℕ) (at count : ℕ)
     (entering : Entering limits text whole table store buffer at count) where

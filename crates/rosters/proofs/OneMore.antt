@@ -16,7 +16,7 @@ use Rattle.tables.specs.Given.{Gives}
 use Rattle.tables.specs.Claims.{Sound}
 use Rattle.tables.specs.MapClaims.{Said, said, accepted, refused_by}
 use Rattle.endings.specs.Ready.{InsertsReady}
-use Rattle.files.specs.FileReads.{EntryRead, no_entry_lem, entry}
+use Rattle.files.specs.FileReads.{EntryRead, no_entry, entry}
 use Rattle.rfc4180.specs.Records.{record_then, records_of}
 use Rattle.rfc4180.specs.Rosters.{RosterOutcome, stopped_at, roster_from, TakesRoster}
 use Rattle.demands.proofs.Refusals.{refused_leaves}
@@ -33,7 +33,7 @@ module _ (limits : Limits) (m : Memory) (count : ℕ) where
       → Gives (record_outcome limits e m) (refused number) words bytes
       → TakesRoster (then_records limits count e m) (reply.refused (suc count) number) words bytes
   unfolding roster_from insert_outcome
-  refused_ends no_entry_lem number words bytes gives =
+  refused_ends no_entry number words bytes gives =
       let same : number ≡ 13 = cc in
       rw same (record { answer = refl; table = gives.table; store = gives.store })
   refused_ends (entry x value rest) number words bytes gives =

@@ -26,7 +26,7 @@ use Rattle.lengths.proofs.FirstLines.{label_passed}
 use Rattle.verdicts.specs.Verdicts.{update_verdict}
 use Rattle.endings.specs.Ready.{Ready}
 use Rattle.endings.proofs.FirstTests.{refused_insert}
-use Rattle.files.specs.FileReads.{EntryRead, no_entry_lem, entry}
+use Rattle.files.specs.FileReads.{EntryRead, no_entry, entry}
 use Rattle.rfc4180.specs.Records.{take_record}
 use Rattle.demands.proofs.Outcomes.{memory_passes}
 use Rattle.records.specs.declared.Record.{Record}
@@ -60,7 +60,7 @@ module _ (limits : Limits) (r : Record) where
     record_lines below = go r.whole
       where
         go : (b : Bool)
-            → of_record limits (cond b (entry (content_in text r.label) r.value (drop r.next text)) no_entry_lem)
+            → of_record limits (cond b (entry (content_in text r.label) r.value (drop r.next text)) no_entry)
             below
             ≡ line (not b) 13 (of_length limits r.label.len below)
         go false = refl
@@ -97,7 +97,7 @@ module _ (limits : Limits) (r : Record) where
           passes =
               ap
               (λ (b : Bool).
-              of_record limits (cond b (entry (content_in text r.label) r.value (drop r.next text)) no_entry_lem)
+              of_record limits (cond b (entry (content_in text r.label) r.value (drop r.next text)) no_entry)
               pass) (sym (is_whole is))
               ∙ passed_lines is pass
 
@@ -112,7 +112,7 @@ pub entry_refused : (limits : Limits) (table store : List ℕ) → SizesFit limi
     (why : Refusal) → of_record limits e (of_table limits table store pass) ≡ refuse (refusal_number why)
     → Gives (record_outcome limits e (lent table store)) (refused (refusal_number why)) table store
 unfolding update_verdict
-entry_refused limits table store sizes no_entry_lem why is =
+entry_refused limits table store sizes no_entry why is =
     let same : refusal_number why ≡ 13 = cc in
     rw same (record { answer = refl; table = refl; store = refl })
 entry_refused limits table store sizes (entry x value rest) why is =

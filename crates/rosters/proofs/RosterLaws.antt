@@ -22,7 +22,7 @@ use Rattle.lengths.specs.declared.Early.TheVariants.{Pass, Refused}
 use Rattle.lengths.specs.Early.{early_says}
 use Rattle.lengths.proofs.FirstLines.{Decides, one_line, in_turn, memory_decides, lines_refused, lines_passed}
 use Rattle.lengths.proofs.FirstLines.{memory_refused, memory_passed, line_passed, sizes_passed, label_passed, no_pass}
-use Rattle.files.specs.FileReads.{EntryRead, no_entry_lem, entry}
+use Rattle.files.specs.FileReads.{EntryRead, no_entry, entry}
 use Rattle.rfc4180.specs.Records.{take_record, records_of}
 use Rattle.rfc4180.specs.Rosters.{longest_text, RosterOutcome, roster_from, of_text, roster_outcome, TakesRoster}
 use Rattle.rfc4180.proofs.RecordLaws.{records_of_none, records_of_some}
@@ -68,7 +68,7 @@ module _ (limits : Limits) (table store text : List ℕ) where
       where
         so : (e : EntryRead) → pass ≡ of_record limits e (of_table limits table store pass)
             → sound limits table store ≡ true
-        so no_entry_lem passes = no_pass 13 passes
+        so no_entry passes = no_pass 13 passes
         so (entry x value rest) passes =
             not-false _ (line_passed (not (sound limits table store)) 6 pass
             (label_passed limits x (of_table limits table store pass) passes).1).0

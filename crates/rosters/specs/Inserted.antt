@@ -7,14 +7,14 @@ use Rattle.tables.specs.Written.{Memory}
 use Rattle.tables.specs.Outcomes.{Verdict, pass, refuse, line, of_length, of_label, Outcome, insert_outcome}
 use Rattle.words.specs.Limits.{SizesFit}
 use Rattle.endings.specs.Ready.{EditsFit, Ready, InsertsReady}
-use Rattle.files.specs.FileReads.{EntryRead, no_entry_lem, entry}
+use Rattle.files.specs.FileReads.{EntryRead, no_entry, entry}
 use Rattle.records.specs.declared.Content.{Content}
 use Rattle.records.specs.declared.Record.{Record}
 use Rattle.records.specs.Contents.{content_in, ContentInside, RecordInside}
 
 -- the lines of a record before those of the table: 13, then its label's
 abbrev pub of_record : Limits → EntryRead → Verdict → Verdict
-of_record limits no_entry_lem below = refuse 13
+of_record limits no_entry below = refuse 13
 of_record limits (entry x value rest) below = of_label limits x below
 
 -- the same of a record that is read, by its label's length
@@ -23,7 +23,7 @@ record_verdict limits r = line (not r.whole) 13 (of_length limits r.label.len pa
 
 -- what a record answers and leaves
 abbrev pub record_outcome : Limits → EntryRead → Memory → Outcome
-record_outcome limits no_entry_lem m = record { answer = refused 13; memory = m }
+record_outcome limits no_entry m = record { answer = refused 13; memory = m }
 record_outcome limits (entry x value rest) m = insert_outcome limits m.table m.store x value
 
 -- a label that stands in the text can be inserted, and the buffer has room for it

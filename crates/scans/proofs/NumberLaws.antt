@@ -1,7 +1,7 @@
 -- A number read at a position of a file, group by group.
 -- `broken_at_end`: none at the file's end. `last_broken`, `last_read`: one group. `few_broken`, `cut_broken`,
 -- `needless_broken`, `over_broken`, `whole_read`: more groups, by what is read after the first.
--- `read_low`, `read_high`, `next_within`: a number that is read is within its limit, and ends in the file.
+-- `read_low`, `read_high`: a number that is read is within its limits.
 -- `low_broken`, `lowest_broken`, `lowest_read`: with a lowest number besides.
 use mathlib.Core.List.{List, ◌∷◌}
 use mathlib.Core.Path.{◌≡◌, sym, ap, ◌∙◌}
@@ -9,14 +9,14 @@ use Prim.Native.Nat.{ℕ, ◌+◌, ◌-◌, ◌*◌, ◌/◌, ◌≤◌, ◌<◌
 use native.Mathlib.Numerals.{add-one}
 use lib.ListN.{length, get_or, drop, drop_of_length-le}
 use lib.Seq.{drop-cons}
+use Rattle.std.specs.Prelude.{Option, Some, None}
 use Rattle.files.specs.Groups.{no_number, number}
 use Rattle.files.specs.FileReads.{take_number}
 use Rattle.files.proofs.NumberReads.{takes_of, none_at_end, take_none_within, take_above_lowest, take_below_lowest}
 use Rattle.files.proofs.GroupReads.{last_taken, last_beyond, lower_taken, lower_beyond, lower_cut}
 use Rattle.files.proofs.GroupReads.{lower_needless, lower_over}
 use Rattle.scans.specs.declared.Number.{Number}
-use Rattle.scans.specs.declared.Number.TheVariants.{Broken, Read}
-use Rattle.scans.specs.Scanned.{number_says, next_of}
+use Rattle.scans.specs.Scanned.{number_says}
 
 module _ (file : List ℕ) (at highest : ℕ) where
   -- There is no number at the file's end.
@@ -41,66 +41,62 @@ module _ (file : List ℕ) (at highest : ℕ) where
       few_broken few =
           rw byte_first (sym (lower_beyond highest (get_or file at 0) (drop (at + 1) file) large is_byte_lem few))
 
-      module _ (upper : Number)
+      module _ (upper : Option Number)
           (says : number_says file upper ≡ take_number 0 (highest / 128) (drop (at + 1) file)) where
-        pub cut_broken : upper ≡ Broken → no_number ≡ take_number 0 highest (drop at file)
+        pub cut_broken : upper ≡ None → no_number ≡ take_number 0 highest (drop at file)
         cut_broken is =
             rw byte_first
             (sym (lower_cut highest (get_or file at 0) (drop (at + 1) file) large is_byte_lem
             (sym says ∙ ap (number_says file) is)))
 
-        module _ (n next : ℕ) (is : upper ≡ Read n next) where
+        module _ (v : Number) (is : upper ≡ Some v) where
           -- What is read after the first group.
-          above_first : take_number 0 (highest / 128) (drop (at + 1) file) ≡ number n (drop next file)
+          above_first : take_number 0 (highest / 128) (drop (at + 1) file) ≡ number v.n (drop v.next file)
           above_first = sym says ∙ ap (number_says file) is
 
-          pub needless_broken : n < 1 → no_number ≡ take_number 0 highest (drop at file)
+          pub needless_broken : v.n < 1 → no_number ≡ take_number 0 highest (drop at file)
           needless_broken none =
               rw byte_first
-              (sym (lower_needless highest (get_or file at 0) (drop (at + 1) file) large is_byte_lem n (drop next file)
+              (sym (lower_needless highest (get_or file at 0) (drop (at + 1) file) large is_byte_lem v.n (drop v.next file)
               above_first none))
 
-          pub over_broken : highest < 128 * n + (get_or file at 0 - 128)
+          pub over_broken : highest < 128 * v.n + (get_or file at 0 - 128)
               → no_number ≡ take_number 0 highest (drop at file)
           over_broken beyond =
               rw byte_first
-              (sym (lower_over highest (get_or file at 0) (drop (at + 1) file) large is_byte_lem n (drop next file)
+              (sym (lower_over highest (get_or file at 0) (drop (at + 1) file) large is_byte_lem v.n (drop v.next file)
               above_first beyond))
 
-          pub whole_read : 1 ≤ n → 128 * n + (get_or file at 0 - 128) ≤ highest
-              → number (128 * n + (get_or file at 0 - 128)) (drop next file) ≡ take_number 0 highest (drop at file)
+          pub whole_read : 1 ≤ v.n → 128 * v.n + (get_or file at 0 - 128) ≤ highest
+              → number (128 * v.n + (get_or file at 0 - 128)) (drop v.next file) ≡ take_number 0 highest (drop at file)
           whole_read some high =
               rw byte_first
-              (sym (lower_taken highest (get_or file at 0) (drop (at + 1) file) large is_byte_lem n (drop next file)
+              (sym (lower_taken highest (get_or file at 0) (drop (at + 1) file) large is_byte_lem v.n (drop v.next file)
               above_first some high))
 
 -- A number that is read is within its limit.
-module _ (file : List ℕ) (at lowest highest : ℕ) (found : Number)
+module _ (file : List ℕ) (at lowest highest : ℕ) (found : Option Number)
     (says : number_says file found ≡ take_number lowest highest (drop at file))
-    (n next : ℕ) (is : found ≡ Read n next) where
-  pub read_low : lowest ≤ n
-  read_low = (takes_of lowest highest (drop at file) n (drop next file) (sym says ∙ ap (number_says file) is)).low
+    (v : Number) (is : found ≡ Some v) where
+  pub read_low : lowest ≤ v.n
+  read_low = (takes_of lowest highest (drop at file) v.n (drop v.next file) (sym says ∙ ap (number_says file) is)).low
 
-  pub read_high : n ≤ highest
-  read_high = (takes_of lowest highest (drop at file) n (drop next file) (sym says ∙ ap (number_says file) is)).high
-
--- The position after a number is in the file.
-pub next_within : (upper : Number) (n next size : ℕ) → upper ≡ Read n next → next_of upper ≤ size → next ≤ size
-next_within upper n next size is within = rw is at within
+  pub read_high : v.n ≤ highest
+  read_high = (takes_of lowest highest (drop at file) v.n (drop v.next file) (sym says ∙ ap (number_says file) is)).high
 
 -- With a lowest number besides.
-module _ (file : List ℕ) (at lowest highest : ℕ) (found : Number)
+module _ (file : List ℕ) (at lowest highest : ℕ) (found : Option Number)
     (says : number_says file found ≡ take_number 0 highest (drop at file)) where
-  pub low_broken : found ≡ Broken → no_number ≡ take_number lowest highest (drop at file)
+  pub low_broken : found ≡ None → no_number ≡ take_number lowest highest (drop at file)
   low_broken is = sym (take_none_within lowest highest (drop at file) (sym says ∙ ap (number_says file) is))
 
-  module _ (n next : ℕ) (is : found ≡ Read n next) where
-    pub lowest_broken : n < lowest → no_number ≡ take_number lowest highest (drop at file)
+  module _ (v : Number) (is : found ≡ Some v) where
+    pub lowest_broken : v.n < lowest → no_number ≡ take_number lowest highest (drop at file)
     lowest_broken below =
-        sym (take_below_lowest lowest highest (drop at file) n (drop next file)
+        sym (take_below_lowest lowest highest (drop at file) v.n (drop v.next file)
         (sym says ∙ ap (number_says file) is) below)
 
-    pub lowest_read : lowest ≤ n → number n (drop next file) ≡ take_number lowest highest (drop at file)
+    pub lowest_read : lowest ≤ v.n → number v.n (drop v.next file) ≡ take_number lowest highest (drop at file)
     lowest_read low =
-        sym (take_above_lowest lowest highest (drop at file) n (drop next file)
+        sym (take_above_lowest lowest highest (drop at file) v.n (drop v.next file)
         (sym says ∙ ap (number_says file) is) low)

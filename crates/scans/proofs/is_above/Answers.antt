@@ -1,11 +1,9 @@
-use Rattle.scans.proofs.OrderLaws.{above, not_above_same, not_above_larger}
+use Rattle.std.proofs.Common.{arith}
+use Rattle.std.proofs.lemmas.Grind.{common_steps}
+use Rattle.scans.proofs.OrderLaws.{above_by_order}
 use Rattle.scans.proofs.is_above.Goals as goal
 
-pub returns-in-Smaller : goal.returns-in-Smaller
-returns-in-Smaller c = search (above, not_above_same, not_above_larger)
-
-pub returns-in-Same : goal.returns-in-Same
-returns-in-Same c = search (above, not_above_same, not_above_larger)
-
-pub returns-in-Larger : goal.returns-in-Larger
-returns-in-Larger c = search (above, not_above_same, not_above_larger)
+pub returns : goal.returns
+returns c =
+    above_by_order _ _ _ c.compare.ensures.result_value _
+    (λ less. grind (arith, common_steps)) (λ same. grind (arith, common_steps)) (λ more. grind (arith, common_steps))

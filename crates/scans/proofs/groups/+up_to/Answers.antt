@@ -1,4 +1,4 @@
-use Rattle.std.proofs.Common.{◌/◌, ◌≤◌, ◌<◌, get_or, arith}
+use Rattle.std.proofs.Common.{rules, ◌/◌, ◌≤◌, ◌<◌, get_or, arith}
 use Rattle.scans.proofs.NumberLaws.{broken_at_end, last_broken, last_read, few_broken, cut_broken}
 use Rattle.scans.proofs.NumberLaws.{read_high, needless_broken, over_broken, whole_read}
 use Rattle.scans.proofs.groups.+up_to.Goals as goal
@@ -17,35 +17,33 @@ returns-then-highest-lt128-clause-result_value t c =
     let byte : get_or c.args.file.now c.args.at 0 < 256 = omega (arith, c.type_inv.file c.args.at) in
     search (few_broken, byte)
 
-pub returns-in_default-clause-result_value : goal.returns-in_default-clause-result_value
-returns-in_default-clause-result_value t c =
+pub returns-in_err-upper-clause-result_value : goal.returns-in_err-upper-clause-result_value
+returns-in_err-upper-clause-result_value t c =
     let byte : get_or c.args.file.now c.args.at 0 < 256 = omega (arith, c.type_inv.file c.args.at) in
-    search (cut_broken, byte)
+    search (rules, cut_broken, byte)
 
-pub returns-then-n-lt1-clause-result_value : goal.returns-then-n-lt1-clause-result_value
-returns-then-n-lt1-clause-result_value t c =
+pub returns-then-upper-lt1-clause-result_value : goal.returns-then-upper-lt1-clause-result_value
+returns-then-upper-lt1-clause-result_value t c =
     let byte : get_or c.args.file.now c.args.at 0 < 256 = omega (arith, c.type_inv.file c.args.at) in
-    let none : c.in-Read.n < 1 = omega arith in
-    search (needless_broken, byte)
+    search (rules, needless_broken, byte)
 
-pub overflow_mul-whole : goal.overflow_mul-whole
-overflow_mul-whole t c =
-    let within : c.in-Read.n ≤ c.args.highest / 128 = search read_high in
+pub overflow_mul-n : goal.overflow_mul-n
+overflow_mul-n t c =
+    let within : c.in_ok-upper.upper.n ≤ c.args.highest / 128 = search (rules, read_high) in
     omega arith
 
-pub overflow_add-whole : goal.overflow_add-whole
-overflow_add-whole t c =
+pub overflow_add-n : goal.overflow_add-n
+overflow_add-n t c =
     let byte : get_or c.args.file.now c.args.at 0 < 256 = omega (arith, c.type_inv.file c.args.at) in
-    let within : c.in-Read.n ≤ c.args.highest / 128 = search read_high in
+    let within : c.in_ok-upper.upper.n ≤ c.args.highest / 128 = search (rules, read_high) in
     omega arith
 
-pub returns-then-highest-whole-clause-result_value : goal.returns-then-highest-whole-clause-result_value
-returns-then-highest-whole-clause-result_value t c =
+pub returns-then-highest-n-clause-result_value : goal.returns-then-highest-n-clause-result_value
+returns-then-highest-n-clause-result_value t c =
     let byte : get_or c.args.file.now c.args.at 0 < 256 = omega (arith, c.type_inv.file c.args.at) in
-    search (over_broken, byte)
+    search (rules, over_broken, byte)
 
 pub returns-clause-result_value : goal.returns-clause-result_value
 returns-clause-result_value t c =
     let byte : get_or c.args.file.now c.args.at 0 < 256 = omega (arith, c.type_inv.file c.args.at) in
-    let some : 1 ≤ c.in-Read.n = omega arith in
-    search (whole_read, byte)
+    search (rules, whole_read, byte)
