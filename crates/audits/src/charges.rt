@@ -1,10 +1,10 @@
-// Refusals by charge: a charge is 0 to 100, or 255 where it is unknown.
+// Refusals by charge.
+use images::refusals::Refusal;
 
-// The number that refuses a charge, or 0.
-pub fn charge_refusal(charge: usize) -> usize {
+// Refuses a charge but 0 to 100, and 255 where it is unknown.
+pub fn admit_charge(charge: usize) -> Result<(), Refusal> {
     match charge {
-        0..=100 => 0,
-        255 => 0,
-        _ => 24,
+        0..=100 | 255 => Ok(()),
+        _ => Err(Refusal::WrongCharge),
     }
 }

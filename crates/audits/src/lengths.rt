@@ -1,25 +1,26 @@
 // Refusals by lengths: a table of 4 words and 8 for each slot, a store of as many bytes for each slot as a label may
 // have, a label of 1 to as many.
 use images::memory::Image;
+use images::refusals::Refusal;
 
-// The number that refuses memory by its lengths, the table's before the store's; or 0.
-pub fn lent_refusal(image: &Image) -> usize {
+// Refuses memory by its lengths, the table's before the store's.
+pub fn admit_lent(image: &Image) -> Result<(), Refusal> {
     if image.lent.words != image.sizes.words() {
-        return 1;
+        return Err(Refusal::WrongTable);
     }
     if image.lent.bytes != image.sizes.bytes() {
-        return 2;
+        return Err(Refusal::WrongStore);
     }
-    0
+    Ok(())
 }
 
-// The number that refuses a label by its length; or 0.
-pub fn label_refusal(image: &Image, len: usize) -> usize {
+// Refuses a label by its length.
+pub fn admit_label(image: &Image, len: usize) -> Result<(), Refusal> {
     if len == 0 {
-        return 3;
+        return Err(Refusal::EmptyLabel);
     }
     if len > image.sizes.width {
-        return 4;
+        return Err(Refusal::LongLabel);
     }
-    0
+    Ok(())
 }

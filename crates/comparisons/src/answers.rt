@@ -1,25 +1,47 @@
 // The answer of a call on a sound table, compared with the map's and the second writing's.
 use crate::Request;
 use images::memory::Image;
-use images::packing;
+use images::packing::{Answer, Counts};
+use images::refusals::Refusal;
 use oracles::{bounds, updates};
-use plainmap::Said;
-use plainmap::lists::Lists;
+use plainmap::{PlainMap, Searched};
 use reports::faults::{Fault, ensure};
 use samples::calls::Call;
 
-// Makes a search or an update on the map.
-pub fn on_map(map: &mut Lists, request: Request) -> Said {
+// Makes a search or an update on the map; the answer has no counts.
+pub fn on_map(map: &mut PlainMap, request: Request) -> Answer {
     let Request {
         call,
         label,
         number,
     } = request;
-    match call {
-        Call::Search => plainmap::search(map, label),
-        Call::Insert => plainmap::insert(map, label, (number % 65536) as u16),
-        Call::SetCharge => plainmap::set_charge(map, label, number),
-        _ => plainmap::delete(map, label),
+    let updated = match call {
+        Call::Search => return searched_on(map, label),
+        Call::Insert => map.insert(label, (number % 65536) as u16),
+        Call::SetCharge => map.set_charge(label, number),
+        _ => map.delete(label),
+    };
+    let counts = Counts::default();
+    match updated {
+        Ok(slot) => Answer::Updated { slot, counts },
+        Err(refusal) => Answer::refused(refusal),
+    }
+}
+
+fn searched_on(map: &PlainMap, label: &[u8]) -> Answer {
+    let counts = Counts::default();
+    match map.search(label) {
+        Ok(Searched::Found { slot, value }) => Answer::Found {
+            slot,
+            value: usize::from(value),
+            counts,
+        },
+        Ok(Searched::Absent { below, above }) => Answer::Absent {
+            below: below.unwrap_or(0),
+            above: above.unwrap_or(0),
+            counts,
+        },
+        Err(refusal) => Answer::refused(refusal),
     }
 }
 
@@ -29,20 +51,18 @@ pub fn compare(
     found: &Image,
     request: Request,
     shared: usize,
-    said: usize,
-    plain: Said,
+    said: Answer,
+    plain: Answer,
 ) -> Result<(), Fault> {
     let Request {
         call,
         label,
         number,
     } = request;
-    ensure(
-        said == updates::on_sound(found, call, label, number),
-        Fault::Answer,
-    )?;
-    ensure(said == as_map(call, said, plain), Fault::Map)?;
-    compare_bounds(found, label, shared, said)
+    let due = Answer::from(updates::on_sound(found, call, label, number));
+    ensure(said == due, Fault::Answer)?;
+    ensure(said == plain.with_counts(said.counts()), Fault::Map)?;
+    compare_bounds(found, label, shared, said.counts())
 }
 
 // Compares counts with the bounds: those of the answer, and those of the search steps, since a refused call made a
@@ -51,39 +71,24 @@ pub fn compare_bounds(
     found: &Image,
     label: &[u8],
     shared: usize,
-    said: usize,
+    counts: Counts,
 ) -> Result<(), Fault> {
-    compare_counts(found, label.len(), shared, said)?;
+    compare_counts(found, label.len(), shared, counts)?;
     compare_counts(found, label.len(), shared, searched(found, label))
 }
 
-// What the search steps say.
-fn searched(found: &Image, label: &[u8]) -> usize {
-    updates::on_sound(found, Call::Search, label, 0)
+// The counts of the search steps.
+fn searched(found: &Image, label: &[u8]) -> Counts {
+    Answer::from(updates::on_sound(found, Call::Search, label, 0)).counts()
 }
 
-fn compare_counts(found: &Image, len: usize, shared: usize, answer: usize) -> Result<(), Fault> {
-    ensure(bounds::hold(found, len, answer), Fault::Bounds)?;
-    ensure(bounds::shared_holds(shared, answer), Fault::Shared)
+fn compare_counts(found: &Image, len: usize, shared: usize, counts: Counts) -> Result<(), Fault> {
+    ensure(bounds::hold(found, len, counts), Fault::Bounds)?;
+    ensure(bounds::shared_holds(shared, counts), Fault::Shared)
 }
 
 // Whether the search of a call reached the bound by shared bytes; a call that refuses a charge makes none.
-pub fn reached(found: &Image, label: &[u8], shared: usize, said: usize) -> bool {
-    packing::refusal(said) != 24 && bounds::shared_reached(shared, searched(found, label))
-}
-
-// What the map said, with the counts of an answer.
-fn as_map(call: Call, said: usize, plain: Said) -> usize {
-    if plain.refusal > 0 {
-        return packing::refused(plain.refusal);
-    }
-    let visits = packing::visits(said);
-    let places = packing::places(said);
-    if call != Call::Search {
-        return packing::counted(packing::UPDATED, visits, places, plain.slot, 0);
-    }
-    if plain.slot == 0 {
-        return packing::counted(packing::ABSENT, visits, places, plain.below, plain.above);
-    }
-    packing::counted(packing::FOUND, visits, places, plain.slot, plain.value)
+pub fn reached(found: &Image, label: &[u8], shared: usize, said: Answer) -> bool {
+    said.refusal() != Some(Refusal::WrongCharge)
+        && bounds::shared_reached(shared, searched(found, label))
 }

@@ -1,17 +1,16 @@
 // The charges that a call left.
 use images::memory::{Field, Image};
-use plainmap::lists::Lists;
+use plainmap::PlainMap;
 
 pub fn of_slot(image: &Image, slot: usize) -> usize {
     image.field(slot, Field::Charge)
 }
 
 // Whether every label that the map holds has its charge.
-pub fn agree(image: &Image, map: &Lists) -> bool {
-    (0..plainmap::held(map)).all(|i| {
-        let slot = plainmap::slot_at(map, i);
-        of_slot(image, slot) == plainmap::charge_of(map, slot)
-    })
+pub fn agree(image: &Image, map: &PlainMap) -> bool {
+    map.entries()
+        .iter()
+        .all(|entry| of_slot(image, entry.slot) == entry.charge)
 }
 
 // Whether one slot is left with a charge, and every other with the charge that it had.

@@ -3,20 +3,21 @@
 use crate::{Request, answers, charges, maps};
 use audits::{lengths, sound};
 use images::memory::{Head, Image};
-use images::packing;
+use images::packing::Answer;
 use oracles::{outcomes, updates};
 use reports::faults::{Fault, ensure};
 use samples::calls::Call;
 
 // Compares a call's answer, what it left, and its counts.
-pub fn compare(found: &Image, left: &Image, request: Request, said: usize) -> Result<(), Fault> {
+pub fn compare(found: &Image, left: &Image, request: Request, said: Answer) -> Result<(), Fault> {
     let mut judged = *found;
     let due = outcomes::judge(&mut judged, request.call, request.label, request.number);
     ensure(said == due, Fault::Answer)?;
-    if packing::kind(said) == packing::UPDATED && request.call != Call::SetCharge {
-        compare_update(found, left, request, packing::one(said))?;
-    } else {
-        ensure(judged == *left, Fault::Memory)?;
+    match said {
+        Answer::Updated { slot, .. } if request.call != Call::SetCharge => {
+            compare_update(found, left, request, slot)?;
+        }
+        _ => ensure(judged == *left, Fault::Memory)?,
     }
     if !has_map(found, request.call) {
         return Ok(());
@@ -29,7 +30,7 @@ fn has_map(image: &Image, call: Call) -> bool {
     matches!(
         call,
         Call::Search | Call::Insert | Call::Delete | Call::SetCharge
-    ) && lengths::lent_refusal(image) == 0
+    ) && lengths::admit_lent(image).is_ok()
         && sound::is_sound(image)
 }
 
@@ -39,12 +40,12 @@ fn compare_labelled(
     found: &Image,
     left: &Image,
     request: Request,
-    said: usize,
+    said: Answer,
 ) -> Result<(), Fault> {
     let mut map = maps::of_table(found);
-    let shared = plainmap::most_shared(&map, request.label);
+    let shared = map.most_shared(request.label);
     if matches!(request.call, Call::Insert | Call::Delete) {
-        return answers::compare_bounds(found, request.label, shared, said);
+        return answers::compare_bounds(found, request.label, shared, said.counts());
     }
     let plain = answers::on_map(&mut map, request);
     answers::compare(found, request, shared, said, plain)?;
@@ -65,7 +66,7 @@ fn compare_update(found: &Image, left: &Image, request: Request, slot: usize) ->
     }
     ensure(held(found) == held(left).wrapping_add(1), Fault::Head)?;
     ensure(
-        packing::kind(met(left, request)) == packing::ABSENT,
+        matches!(met(left, request), Answer::Absent { .. }),
         Fault::Memory,
     )
 }
@@ -75,12 +76,12 @@ fn compare_insert(found: &Image, left: &Image, request: Request, slot: usize) ->
     ensure(stands(left, slot, request.label), Fault::Memory)?;
     ensure(held(found).wrapping_add(1) == held(left), Fault::Head)?;
     let met = met(left, request);
-    ensure(
-        packing::kind(met) == packing::FOUND
-            && packing::one(met) == slot
-            && packing::other(met) == request.number % 65536,
-        Fault::Memory,
-    )
+    let due = Answer::Found {
+        slot,
+        value: request.number % 65536,
+        counts: met.counts(),
+    };
+    ensure(met == due, Fault::Memory)
 }
 
 fn held(image: &Image) -> usize {
@@ -88,14 +89,11 @@ fn held(image: &Image) -> usize {
 }
 
 // What a search for the label says then.
-fn met(left: &Image, request: Request) -> usize {
-    updates::on_sound(left, Call::Search, request.label, 0)
+fn met(left: &Image, request: Request) -> Answer {
+    Answer::from(updates::on_sound(left, Call::Search, request.label, 0))
 }
 
 // Whether a slot's bytes begin with a label's, in its spelling.
 fn stands(image: &Image, slot: usize, label: &[u8]) -> bool {
-    label
-        .iter()
-        .enumerate()
-        .all(|(j, byte)| image.byte(slot, j) == usize::from(*byte))
+    image.part(slot).starts_with(label)
 }

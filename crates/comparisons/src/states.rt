@@ -2,8 +2,8 @@
 use crate::charges;
 use audits::sound;
 use images::memory::{Field, Head, Image};
-use images::packing;
-use plainmap::lists::Lists;
+use images::packing::Answer;
+use plainmap::PlainMap;
 use reports::faults::{Fault, ensure};
 use samples::calls::Call;
 
@@ -11,16 +11,16 @@ use samples::calls::Call;
 pub fn compare(
     found: &Image,
     left: &Image,
-    map: &Lists,
+    map: &PlainMap,
     call: Call,
-    said: usize,
+    said: Answer,
 ) -> Result<(), Fault> {
     ensure(memory_agrees(found, left, call, said), Fault::Memory)?;
     compare_map(left, map)
 }
 
 // Compares memory with what the map holds: it is sound, and has the map's head and each label's charge.
-pub fn compare_map(left: &Image, map: &Lists) -> Result<(), Fault> {
+pub fn compare_map(left: &Image, map: &PlainMap) -> Result<(), Fault> {
     ensure(sound::is_sound(left), Fault::Soundness)?;
     ensure(head_agrees(left, map), Fault::Head)?;
     ensure(charges::agree(left, map), Fault::Charges)
@@ -28,41 +28,35 @@ pub fn compare_map(left: &Image, map: &Lists) -> Result<(), Fault> {
 
 // Whether a call that updated left other memory, and any other call the same; one that set a charge changed at most
 // that word.
-fn memory_agrees(found: &Image, left: &Image, call: Call, said: usize) -> bool {
-    let updated = packing::kind(said) == packing::UPDATED;
-    if call == Call::SetCharge && updated {
-        let slot = packing::one(said);
-        let mut set = *found;
-        set.put_field(slot, Field::Charge, charges::of_slot(left, slot));
-        return set == *left;
+fn memory_agrees(found: &Image, left: &Image, call: Call, said: Answer) -> bool {
+    match said {
+        Answer::Updated { slot, .. } if call == Call::SetCharge => {
+            let mut set = *found;
+            set.put_field(slot, Field::Charge, charges::of_slot(left, slot));
+            set == *left
+        }
+        Answer::Updated { .. } => found != left,
+        _ => found == left,
     }
-    (found == left) != updated
 }
 
-// The labels held, the high mark, and the slot freed last.
-fn head_agrees(image: &Image, map: &Lists) -> bool {
-    image.head(Head::Held) == plainmap::held(map)
-        && image.head(Head::Mark) == plainmap::high(map)
-        && image.head(Head::Free) == plainmap::last_freed(map)
+// The labels held, the high mark, and the slot freed last, 0 for none.
+fn head_agrees(image: &Image, map: &PlainMap) -> bool {
+    image.head(Head::Held) == map.held()
+        && image.head(Head::Mark) == map.high()
+        && image.head(Head::Free) == map.last_freed().unwrap_or(0)
 }
 
-// A listing's count and words, the later ones, which stay, and the values of the slots listed.
-pub fn listing_agrees(image: &Image, map: &Lists, said: usize) -> bool {
-    said == packing::plain(packing::LISTED, plainmap::held(map))
-        && (0..513).all(|i| is_listed(image, map, i))
-}
-
-// Whether word `i` of the list is the slot of the map's label there, with its value, or has stayed.
-fn is_listed(image: &Image, map: &Lists, i: usize) -> bool {
-    let word = image.listed(i);
-    if i >= plainmap::held(map) {
-        return word == 65535;
-    }
-    word == plainmap::slot_at(map, i)
-        && image.field(word, Field::Value) == plainmap::value_of(map, word)
-}
-
-// Whether a label is the map's in a slot, byte by byte.
-pub fn spells(map: &Lists, slot: usize, label: &[u8]) -> bool {
-    label.len() == plainmap::length_of(map, slot) && plainmap::labels::begins_with(map, slot, label)
+// Whether the first words of the list are the slots of the map's labels, with their values, and the later words have
+// stayed.
+pub fn list_agrees(image: &Image, map: &PlainMap) -> bool {
+    (0..513).all(|i| {
+        let word = image.listed(i);
+        match map.entries().get(i) {
+            Some(entry) => {
+                word == entry.slot && image.field(word, Field::Value) == usize::from(entry.value)
+            }
+            None => word == 65535,
+        }
+    })
 }

@@ -149,23 +149,25 @@ impl Image {
         }
     }
 
-    // Byte `j` of a slot.
-    pub fn byte(&self, slot: usize, j: usize) -> usize {
-        if slot == 0 || j >= self.sizes.width {
-            return 0;
-        }
-        let start = (slot - 1).wrapping_mul(self.sizes.width);
-        self.entry(Entry::Byte(start.wrapping_add(j)))
+    // The bytes of a slot in the store.
+    pub fn part(&self, slot: usize) -> &[u8] {
+        let start = slot.wrapping_sub(1).wrapping_mul(self.sizes.width);
+        let part = self.store.get(start..start.wrapping_add(self.sizes.width));
+        part.unwrap_or(&[])
+    }
+
+    // The label of a slot, as many of its bytes as its length says.
+    pub fn label(&self, slot: usize) -> &[u8] {
+        let part = self.part(slot);
+        part.get(..self.field(slot, Field::Length)).unwrap_or(part)
     }
 
     // The number at a place of a slot's label: 0 past its end, the byte plus 33 for A to Z, and plus 1 for any other.
     pub fn number_at(&self, slot: usize, place: usize) -> usize {
-        if place == 0 || place > self.field(slot, Field::Length) {
-            return 0;
-        }
-        match self.byte(slot, place - 1) {
-            capital @ 65..=90 => capital + 33,
-            other => other.wrapping_add(1),
+        match place.checked_sub(1).and_then(|i| self.label(slot).get(i)) {
+            Some(capital @ b'A'..=b'Z') => usize::from(*capital) + 33,
+            Some(other) => usize::from(*other) + 1,
+            None => 0,
         }
     }
 

@@ -1,47 +1,39 @@
 // The three bounds on a search's counts: visits by the smallest tree, places by the label's length, places by the most
 // leading bytes that the label shares with any one label held, a number that the map gives.
 use images::memory::{Head, Image};
-use images::packing;
-use std::num::wrapping_add_usize;
+use images::packing::Counts;
 
 // The nodes of the smallest height-balanced tree of a height.
 pub fn smallest(height: usize) -> usize {
     let mut nodes = 0usize;
     let mut next = 1usize;
-    for i in 0..height {
-        let sum = wrapping_add_usize(wrapping_add_usize(nodes, next), 1);
+    for _ in 0..height {
+        let sum = nodes.wrapping_add(next).wrapping_add(1);
         nodes = next;
         next = sum;
     }
     nodes
 }
 
-// Whether a search of a label of so many bytes may visit and examine as many as its answer says.
-pub fn hold(image: &Image, len: usize, answer: usize) -> bool {
-    let visits = packing::visits(answer);
-    if visits > image.sizes.depth {
-        return false;
-    }
-    if smallest(visits) > image.head(Head::Held) {
-        return false;
-    }
-    packing::places(answer) <= wrapping_add_usize(len, visits)
+// Whether a search of a label of so many bytes may visit and examine as many as it did.
+pub fn hold(image: &Image, len: usize, counts: Counts) -> bool {
+    let Counts { visits, places } = counts;
+    visits <= image.sizes.depth
+        && smallest(visits) <= image.head(Head::Held)
+        && places <= len.wrapping_add(visits)
 }
 
-// Whether a search may examine as many places as its answer says, by the bytes shared.
-pub fn shared_holds(shared: usize, answer: usize) -> bool {
-    packing::places(answer) <= most_places(shared, answer)
+// Whether a search may examine as many places as it did, by the bytes shared.
+pub fn shared_holds(shared: usize, counts: Counts) -> bool {
+    counts.places <= most_places(shared, counts)
 }
 
 // Whether a search that visited a node examined as many places as the bytes shared allow.
-pub fn shared_reached(shared: usize, answer: usize) -> bool {
-    if packing::visits(answer) == 0 {
-        return false;
-    }
-    packing::places(answer) == most_places(shared, answer)
+pub fn shared_reached(shared: usize, counts: Counts) -> bool {
+    counts.visits > 0 && counts.places == most_places(shared, counts)
 }
 
 // The bytes shared, and one place for each node visited.
-fn most_places(shared: usize, answer: usize) -> usize {
-    wrapping_add_usize(shared, packing::visits(answer))
+fn most_places(shared: usize, counts: Counts) -> usize {
+    shared.wrapping_add(counts.visits)
 }

@@ -1,162 +1,137 @@
 // The search steps.
-use audits::lengths::label_refusal;
+use audits::lengths::admit_label;
 use images::memory::{Field, Head, Image};
-use images::packing;
-use plainmap::labels::label_number;
-use std::num::{wrapping_add_usize, wrapping_sub_usize};
+use images::packing::{Answer, Counts};
+use images::refusals::Refusal;
+use plainmap::labels;
+use std::cmp::Ordering;
 
-// Where the search stands: the next link, or the slot where it was found, the numbers P and S, the last nodes where it
-// went right and left, 0 for none, and both counts.
+// Where the search stands: the numbers P and S, the last nodes where it went right and left, 0 for none, and both
+// counts.
 #[derive(Clone, Copy)]
 struct State {
-    link: usize,
-    found: bool,
     p: usize,
     s: usize,
     below: usize,
     above: usize,
-    visits: usize,
-    places: usize,
+    counts: Counts,
 }
 
-pub fn search(image: &Image, label: &[u8]) -> usize {
+// Where a node sends the search: to its left or its right son, or nowhere, where it has the label.
+#[derive(Clone, Copy)]
+enum Step {
+    Left,
+    Right,
+    Found,
+}
+
+pub fn search(image: &Image, label: &[u8]) -> Result<Answer, Refusal> {
     let mut at = State {
-        link: image.head(Head::Root),
-        found: false,
         p: 1,
         s: 1,
         below: 0,
         above: 0,
-        visits: 0,
-        places: 0,
+        counts: Counts::default(),
     };
-    let n = image.sizes.depth;
-    for turn in 0..n {
-        if !at.found {
-            at = met(image, label, at);
+    let mut link = image.head(Head::Root);
+    for _ in 0..image.sizes.depth {
+        if link == 0 {
+            break;
+        }
+        admit_node(image, link)?;
+        let step = at.visit(image, label, link);
+        at.counts.visits = at.counts.visits.wrapping_add(1);
+        match step {
+            Step::Left => {
+                at.above = link;
+                link = image.field(link, Field::Left);
+            }
+            Step::Right => {
+                at.below = link;
+                link = image.field(link, Field::Right);
+            }
+            Step::Found => {
+                return Ok(Answer::Found {
+                    slot: link,
+                    value: image.field(link, Field::Value),
+                    counts: at.counts,
+                });
+            }
         }
     }
-    ended(image, at)
+    // A link that is left over is that of a node too deep.
+    if link > 0 {
+        return Err(Refusal::BrokenWalk);
+    }
+    Ok(Answer::Absent {
+        below: at.below,
+        above: at.above,
+        counts: at.counts,
+    })
 }
 
-// What a search says at its end; a link that is left over is that of a broken node or of one too deep.
-fn ended(image: &Image, at: State) -> usize {
-    let slot = at.link;
-    if at.found {
-        let value = image.field(slot, Field::Value);
-        return packing::counted(packing::FOUND, at.visits, at.places, slot, value);
-    }
-    if slot > 0 {
-        return packing::refused(5);
-    }
-    packing::counted(packing::ABSENT, at.visits, at.places, at.below, at.above)
-}
-
-// Whether a node that a search is to visit has a slot, length, place or side that no node has.
-fn broken(image: &Image, slot: usize) -> bool {
-    if slot > image.sizes.slots {
-        return true;
-    }
+// Refuses a node that a search is to visit with a slot, length, place or side that no node has.
+fn admit_node(image: &Image, slot: usize) -> Result<(), Refusal> {
     let len = image.field(slot, Field::Length);
-    if label_refusal(image, len) > 0 {
-        return true;
+    let place = image.field(slot, Field::Place);
+    if slot > image.sizes.slots
+        || admit_label(image, len).is_err()
+        || image.field(slot, Field::Side) > 1
+        || place == 0
+        || place > len.wrapping_add(1)
+    {
+        return Err(Refusal::BrokenWalk);
     }
-    if image.field(slot, Field::Side) > 1 {
-        return true;
-    }
-    wrong_place(image.field(slot, Field::Place), len)
+    Ok(())
 }
 
-fn wrong_place(place: usize, len: usize) -> bool {
-    if place == 0 {
-        return true;
-    }
-    place > wrapping_add_usize(len, 1)
-}
-
-// The search after the next link's node; at an empty link, or at a broken node, it stays.
-fn met(image: &Image, label: &[u8], at: State) -> State {
-    if at.link == 0 {
-        return at;
-    }
-    if broken(image, at.link) {
-        return at;
-    }
-    visit(image, label, at)
-}
-
-// The search after a node from which it goes to a son.
-fn go(image: &Image, at: State, son: Field) -> State {
-    let mut next = at;
-    if son == Field::Right {
-        next.below = at.link;
-    } else {
-        next.above = at.link;
-    }
-    next.link = image.field(at.link, son);
-    next.visits = wrapping_add_usize(at.visits, 1);
-    next
-}
-
-fn visit(image: &Image, label: &[u8], at: State) -> State {
-    let place = image.field(at.link, Field::Place);
-    if image.field(at.link, Field::Side) == 0 {
-        if (at.p == place) & (at.s > place) {
-            return go(image, at, Field::Right);
-        }
-        if at.p < place {
-            return go(image, at, Field::Right);
-        }
-        if at.p > place {
-            return go(image, at, Field::Left);
-        }
-    } else {
-        if at.s < place {
-            return go(image, at, Field::Left);
-        }
-        if at.s > place {
-            return go(image, at, Field::Right);
+impl State {
+    fn visit(&mut self, image: &Image, label: &[u8], slot: usize) -> Step {
+        let place = image.field(slot, Field::Place);
+        let p = self.p.cmp(&place);
+        let s = self.s.cmp(&place);
+        if image.field(slot, Field::Side) == 0 {
+            match (p, s) {
+                (Ordering::Less, _) | (Ordering::Equal, Ordering::Greater) => Step::Right,
+                (Ordering::Greater, _) => Step::Left,
+                _ => self.compare(image, label, slot, place),
+            }
+        } else {
+            match s {
+                Ordering::Less => Step::Left,
+                Ordering::Greater => Step::Right,
+                Ordering::Equal => self.compare(image, label, slot, place),
+            }
         }
     }
-    compare(image, label, at, place)
-}
 
-// The visit of a node whose label is compared from a place on.
-fn compare(image: &Image, label: &[u8], at: State, from: usize) -> State {
-    let end = compared_to(image, at.link, label, from);
-    let mut next = at;
-    next.places = examined(at.places, from, end);
-    let sought = label_number(label, end);
-    let other = image.number_at(at.link, end);
-    if sought < other {
-        next.s = end;
-        return go(image, next, Field::Left);
+    // The visit of a node whose label is compared from a place on.
+    fn compare(&mut self, image: &Image, label: &[u8], slot: usize, from: usize) -> Step {
+        let end = compared_to(image, slot, label, from);
+        let examined = end.wrapping_add(1).wrapping_sub(from);
+        self.counts.places = self.counts.places.wrapping_add(examined);
+        match labels::number_at(label, end).cmp(&image.number_at(slot, end)) {
+            Ordering::Less => {
+                self.s = end;
+                Step::Left
+            }
+            Ordering::Greater => {
+                self.p = end;
+                Step::Right
+            }
+            Ordering::Equal => Step::Found,
+        }
     }
-    if sought > other {
-        next.p = end;
-        return go(image, next, Field::Right);
-    }
-    next.found = true;
-    next.visits = wrapping_add_usize(at.visits, 1);
-    next
-}
-
-// The places examined, with those of a comparison from one place to another.
-fn examined(places: usize, from: usize, end: usize) -> usize {
-    wrapping_add_usize(places, wrapping_sub_usize(wrapping_add_usize(end, 1), from))
 }
 
 // The last place that a comparison from a place on examines: the first difference, or the shared end.
 fn compared_to(image: &Image, slot: usize, label: &[u8], from: usize) -> usize {
-    let end = wrapping_add_usize(image.sizes.width, 1);
-    for place in from..end {
-        let sought = label_number(label, place);
-        if sought == 0 {
-            return place;
-        }
-        if sought != image.number_at(slot, place) {
+    let last = image.sizes.width.wrapping_add(1);
+    for place in from..last {
+        let sought = labels::number_at(label, place);
+        if sought == 0 || sought != image.number_at(slot, place) {
             return place;
         }
     }
-    end
+    last
 }

@@ -1,354 +1,215 @@
-// A plain ordered map from labels to values and charges, to hold the index against: a sorted list of slots, looked
-// through from its start. It shares nothing with the index, no tree, no comparison and no layout. Each function takes
-// any arguments: what lies outside reads as 0 and is never written.
+// A plain ordered map from labels to values and charges, to hold the index against: a sorted list, looked through from
+// its start. It shares nothing with the index, no tree, no comparison and no layout.
 #![tactic(auto)]
+
+ghost use Rattle.std.specs.Prelude.{◌<◌, ◌≤◌, IfOk, IfErr};
+ghost use Rattle.arrayvec.specs.ArrayVec.{array_vec_len};
 
 pub mod files;
 pub mod labels;
-pub mod lists;
 pub mod loads;
 
-use lists::Lists;
-use std::num::wrapping_add_usize;
-
-// The lists of the map: the slots in ascending order of their labels, the slots freed, each slot's label length, value
-// and charge, the counts and sizes, and 64 lists for the first to the last byte of each slot's label.
-pub const ORDER: usize = 0;
-
-pub const FREED: usize = 1;
-
-pub const LENGTHS: usize = 2;
-
-pub const VALUES: usize = 3;
-
-pub const CHARGES: usize = 4;
-
-pub const COUNTS: usize = 5;
-
-pub const BYTES: usize = 6;
-
-// The counts: labels held, slots freed, slots ever used; and the sizes, slots and bytes of a label.
-const HELD: usize = 0;
-
-const FREE: usize = 1;
-
-const HIGH: usize = 2;
-
-const SLOTS: usize = 3;
-
-pub const WIDTH: usize = 4;
+use arrayvec::ArrayVec;
+use images::refusals::Refusal;
+use samples::shapes::Label;
+use std::cmp::Ordering;
 
 // The charge of a label inserted: unknown.
 const UNKNOWN: usize = 255;
 
-// What the map says: a refusal's number, or 0 with the label's slot and value. A label that is not held has slot 0, and
-// a search says the slots of the nearest smaller and the nearest larger label, 0 for none.
+// A label held, with its slot, its value and its charge.
 #[derive(Clone, Copy)]
-pub struct Said {
-    pub refusal: usize,
+pub struct Entry {
     pub slot: usize,
-    pub value: usize,
-    pub below: usize,
-    pub above: usize,
+    pub label: Label,
+    pub value: u16,
+    pub charge: usize,
 }
 
-fn no_slot(refusal: usize) -> Said {
-    Said {
-        refusal: refusal,
-        slot: 0,
-        value: 0,
-        below: 0,
-        above: 0,
-    }
-}
-
-fn at_slot(map: &Lists, slot: usize) -> Said {
-    Said {
-        refusal: 0,
-        slot: slot,
-        value: value_of(map, slot),
-        below: 0,
-        above: 0,
-    }
-}
-
-// A label that is not held, with so many labels below it.
-fn between(map: &Lists, rank: usize) -> Said {
-    Said {
-        refusal: 0,
-        slot: 0,
-        value: 0,
-        below: slot_before(map, rank),
-        above: slot_from(map, rank),
-    }
-}
-
-// Where a label stands in the list, or would: how many labels are below it, and whether it is held.
-#[derive(Clone, Copy)]
-struct Spot {
-    rank: usize,
-    held: bool,
-}
-
-// Empties the map, for so many labels of at most so many bytes; slots count from 1 again.
-pub fn clear(map: &mut Lists, slots: usize, width: usize) {
-    let empty = [0u16; 35910];
-    *map = empty;
-    lists::put(map, COUNTS, SLOTS, slots);
-    lists::put(map, COUNTS, WIDTH, width);
-}
-
-pub fn held(map: &Lists) -> usize {
-    lists::get(map, COUNTS, HELD)
-}
-
-pub fn high(map: &Lists) -> usize {
-    lists::get(map, COUNTS, HIGH)
-}
-
-// The slot of the label that has `rank` labels below it.
-pub fn slot_at(map: &Lists, rank: usize) -> usize {
-    lists::get(map, ORDER, rank)
-}
-
-// The slot of the last of the first `rank` labels; 0 where there is none.
-fn slot_before(map: &Lists, rank: usize) -> usize {
-    if rank == 0 {
-        return 0;
-    }
-    slot_at(map, rank - 1)
-}
-
-// The slot of the first label after so many; 0 where no more are held.
-fn slot_from(map: &Lists, rank: usize) -> usize {
-    if rank < held(map) {
-        return slot_at(map, rank);
-    }
-    0
-}
-
-pub fn length_of(map: &Lists, slot: usize) -> usize {
-    lists::get(map, LENGTHS, slot)
-}
-
-pub fn value_of(map: &Lists, slot: usize) -> usize {
-    lists::get(map, VALUES, slot)
-}
-
-pub fn charge_of(map: &Lists, slot: usize) -> usize {
-    lists::get(map, CHARGES, slot)
-}
-
-// The slot that was freed last and not taken since, or 0.
-pub fn last_freed(map: &Lists) -> usize {
-    let n = lists::get(map, COUNTS, FREE);
-    if n == 0 {
-        return 0;
-    }
-    lists::get(map, FREED, n - 1)
-}
-
-// The number that refuses a label by its length, or 0.
-fn length_refusal(map: &Lists, len: usize) -> usize {
-    if len == 0 {
-        return 3;
-    }
-    if len > lists::get(map, COUNTS, WIDTH) {
-        return 4;
-    }
-    0
-}
-
-fn spot_of(map: &Lists, label: &[u8]) -> Spot {
-    let n = held(map);
-    for i in 0..n {
-        let slot = slot_at(map, i);
-        let place = labels::difference(map, slot, label);
-        if place == 0 {
-            return Spot {
-                rank: i,
-                held: true,
-            };
-        }
-        if labels::slot_number(map, slot, place) > labels::label_number(label, place) {
-            return Spot {
-                rank: i,
-                held: false,
-            };
+impl Default for Entry {
+    fn default() -> Entry {
+        Entry {
+            slot: 0,
+            label: Label::EMPTY,
+            value: 0,
+            charge: 0,
         }
     }
-    Spot {
-        rank: n,
-        held: false,
-    }
 }
 
-// The most leading bytes that a label shares with any one label held; 0 with none held.
-pub fn most_shared(map: &Lists, label: &[u8]) -> usize {
-    let n = held(map);
-    let mut most = 0usize;
-    for i in 0..n {
-        let shared = labels::shared(map, slot_at(map, i), label);
-        if shared > most {
-            most = shared;
+// What a search says: a label's slot and value, or the slots of the nearest smaller and the nearest larger label.
+#[derive(Clone, Copy, Debug, PartialEq, Eq)]
+pub enum Searched {
+    Found {
+        slot: usize,
+        value: u16,
+    },
+    Absent {
+        below: Option<usize>,
+        above: Option<usize>,
+    },
+}
+
+// How many labels it may hold, of how many bytes; those held, in ascending order; the slots freed and not taken since,
+// in the order in which they were freed; and the highest slot ever taken.
+#[derive(Clone, Drop)]
+pub struct PlainMap {
+    slots: usize,
+    width: usize,
+    entries: ArrayVec<Entry, 512>,
+    freed: ArrayVec<usize, 512>,
+    high: usize,
+}
+
+impl PlainMap {
+    // An empty map, for so many labels of at most so many bytes.
+    pub fn new(slots: usize, width: usize) -> PlainMap {
+        PlainMap {
+            slots,
+            width,
+            entries: ArrayVec::new(),
+            freed: ArrayVec::new(),
+            high: 0,
         }
     }
-    most
-}
 
-pub fn search(map: &Lists, label: &[u8]) -> Said {
-    let why = length_refusal(map, label.len());
-    if why > 0 {
-        return no_slot(why);
+    pub fn entries(&self) -> &[Entry] {
+        self.entries.as_slice()
     }
-    let spot = spot_of(map, label);
-    if !spot.held {
-        return between(map, spot.rank);
-    }
-    at_slot(map, slot_at(map, spot.rank))
-}
 
-// The number that refuses the insert of a label of a length, held already or not; or 0.
-fn insert_refusal(map: &Lists, len: usize, known: bool) -> usize {
-    let why = length_refusal(map, len);
-    if why > 0 {
-        return why;
+    pub fn held(&self) -> usize {
+        self.entries.len()
     }
-    if known {
-        return 7;
-    }
-    if held(map) >= lists::get(map, COUNTS, SLOTS) {
-        return 9;
-    }
-    0
-}
 
-pub fn insert(map: &mut Lists, label: &[u8], value: u16) -> Said {
-    let spot = spot_of(map, label);
-    let why = insert_refusal(map, label.len(), spot.held);
-    if why > 0 {
-        return no_slot(why);
+    pub fn high(&self) -> usize {
+        self.high
     }
-    let slot = take_slot(map);
-    put_at(map, spot.rank, slot, label, value);
-    lists::put(map, CHARGES, slot, UNKNOWN);
-    at_slot(map, slot)
-}
 
-// Puts a label with a slot and a value where so many labels are below it.
-fn put_at(map: &mut Lists, rank: usize, slot: usize, label: &[u8], value: u16) {
-    labels::write(map, slot, label, value);
-    open_rank(map, rank, slot);
-}
-
-// Holds a label that is not held yet, in a slot that the caller names, with a charge.
-pub fn hold(map: &mut Lists, slot: usize, label: &[u8], value: u16, charge: usize) {
-    let spot = spot_of(map, label);
-    put_at(map, spot.rank, slot, label, value);
-    lists::put(map, CHARGES, slot, charge);
-}
-
-fn delete_refusal(map: &Lists, len: usize, known: bool) -> usize {
-    let why = length_refusal(map, len);
-    if why > 0 {
-        return why;
+    // The slot that was freed last and not taken since.
+    pub fn last_freed(&self) -> Option<usize> {
+        self.freed.as_slice().last().copied()
     }
-    if known {
-        return 0;
-    }
-    8
-}
 
-pub fn delete(map: &mut Lists, label: &[u8]) -> Said {
-    let spot = spot_of(map, label);
-    let why = delete_refusal(map, label.len(), spot.held);
-    if why > 0 {
-        return no_slot(why);
+    // The most leading bytes that a label shares with any one label held; 0 with none held.
+    pub fn most_shared(&self, label: &[u8]) -> usize {
+        let mut most = 0;
+        for entry in self.entries() {
+            most = labels::shared(entry.label.as_slice(), label).max(most);
+        }
+        most
     }
-    let slot = slot_at(map, spot.rank);
-    close_rank(map, spot.rank);
-    free_slot(map, slot);
-    at_slot(map, slot)
-}
 
-// The number that refuses a charge for a label of a length, held or not; or 0.
-fn charge_refusal(map: &Lists, len: usize, known: bool, charge: usize) -> usize {
-    let why = length_refusal(map, len);
-    if why > 0 {
-        return why;
+    pub fn search(&self, label: &[u8]) -> Result<Searched, Refusal> {
+        self.admit(label)?;
+        let entries = self.entries.as_slice();
+        Ok(match self.rank_of(label) {
+            Ok(rank) => Searched::Found {
+                slot: entries[rank].slot,
+                value: entries[rank].value,
+            },
+            Err(rank) => {
+                let below = rank.checked_sub(1).and_then(|before| entries.get(before));
+                Searched::Absent {
+                    below: below.map(|entry| entry.slot),
+                    above: entries.get(rank).map(|entry| entry.slot),
+                }
+            }
+        })
     }
-    if (charge > 100) & (charge != UNKNOWN) {
-        return 24;
+
+    // Inserts a label; gives its slot, that freed last, or else the one above the highest.
+    pub fn insert(&mut self, label: &[u8], value: u16) -> Result<usize, Refusal> {
+        self.admit(label)?;
+        let Err(rank) = self.rank_of(label) else {
+            return Err(Refusal::AlreadyHeld);
+        };
+        if self.held() >= self.slots {
+            return Err(Refusal::Full);
+        }
+        let slot = self.last_freed().unwrap_or(self.high.wrapping_add(1));
+        self.put(
+            rank,
+            Entry {
+                slot,
+                label: Label::of(label),
+                value,
+                charge: UNKNOWN,
+            },
+        );
+        if self.freed.pop().is_none() {
+            self.high = slot;
+        }
+        Ok(slot)
     }
-    if known {
-        return 0;
+
+    // Holds a label that is not held yet, in a slot that the caller names, with a charge.
+    pub fn hold(&mut self, entry: Entry) {
+        if let Err(rank) = self.rank_of(entry.label.as_slice()) {
+            self.put(rank, entry);
+        }
     }
-    8
-}
 
-pub fn set_charge(map: &mut Lists, label: &[u8], charge: usize) -> Said {
-    let spot = spot_of(map, label);
-    let why = charge_refusal(map, label.len(), spot.held, charge);
-    if why > 0 {
-        return no_slot(why);
+    // Deletes a label, and gives the slot that it had.
+    pub fn delete(&mut self, label: &[u8]) -> Result<usize, Refusal> {
+        self.admit(label)?;
+        let Ok(rank) = self.rank_of(label) else {
+            return Err(Refusal::NotHeld);
+        };
+        let slot = self.entries.remove(rank).slot;
+        if !self.freed.is_full() {
+            self.freed.push(slot);
+        }
+        Ok(slot)
     }
-    let slot = slot_at(map, spot.rank);
-    lists::put(map, CHARGES, slot, charge);
-    at_slot(map, slot)
-}
 
-// Adds 1 to a count, and gives what it was.
-fn raise(map: &mut Lists, count: usize) -> usize {
-    let n = lists::get(map, COUNTS, count);
-    lists::put(map, COUNTS, count, wrapping_add_usize(n, 1));
-    n
-}
-
-// Takes 1 from a count that is not 0.
-fn lower(map: &mut Lists, count: usize) {
-    let n = lists::get(map, COUNTS, count);
-    if n > 0 {
-        lists::put(map, COUNTS, count, n - 1);
+    // Gives a label a charge: 0 to 100, or that for unknown.
+    pub fn set_charge(&mut self, label: &[u8], charge: usize) -> Result<usize, Refusal> {
+        self.admit(label)?;
+        if charge > 100 && charge != UNKNOWN {
+            return Err(Refusal::WrongCharge);
+        }
+        let Ok(rank) = self.rank_of(label) else {
+            return Err(Refusal::NotHeld);
+        };
+        match self.entries.get_mut(rank) {
+            Some(entry) => {
+                entry.charge = charge;
+                Ok(entry.slot)
+            }
+            None => Err(Refusal::NotHeld),
+        }
     }
-}
 
-// Frees a slot; its charge is forgotten.
-fn free_slot(map: &mut Lists, slot: usize) {
-    let n = raise(map, FREE);
-    lists::put(map, FREED, n, slot);
-    lists::put(map, CHARGES, slot, 0);
-}
-
-// The slot freed last, or else the one above the high mark, which rises.
-fn take_slot(map: &mut Lists) -> usize {
-    let freed = last_freed(map);
-    if freed > 0 {
-        lower(map, FREE);
-        return freed;
+    // Refuses a label by its length.
+    fn admit(&self, label: &[u8]) -> Result<(), Refusal> {
+        match label.len() {
+            0 => Err(Refusal::EmptyLabel),
+            len if len > self.width => Err(Refusal::LongLabel),
+            _ => Ok(()),
+        }
     }
-    raise(map, HIGH);
-    high(map)
-}
 
-// Moves the slots from `rank` on up by one, and puts a slot there.
-fn open_rank(map: &mut Lists, rank: usize, slot: usize) {
-    let mut i = raise(map, HELD);
-    while i > rank {
-        move_rank(map, i - 1, i);
-        i -= 1;
+    // How many labels are below a label: `Ok` where the next one is it, `Err` where it is not held.
+    fn rank_of(&self, label: &[u8]) -> Result<usize, usize>
+        ensures held { IfOk result (λ rank. rank < array_vec_len self.now.entries) }
+        ensures absent { IfErr result (λ rank. rank ≤ array_vec_len self.now.entries) }
+    {
+        for (rank, entry) in self.entries.as_slice().iter().enumerate() {
+            match labels::order(entry.label.as_slice(), label) {
+                Ordering::Less => {}
+                Ordering::Equal => return Ok(rank),
+                Ordering::Greater => return Err(rank),
+            }
+        }
+        Err(self.entries.len())
     }
-    lists::put(map, ORDER, rank, slot);
-}
 
-// Moves the slots above `rank` down by one.
-fn close_rank(map: &mut Lists, rank: usize) {
-    lower(map, HELD);
-    for i in rank..held(map) {
-        move_rank(map, i + 1, i);
+    // Puts an entry where so many are below it, if there is room.
+    fn put(&mut self, rank: usize, entry: Entry)
+        requires { rank ≤ array_vec_len self.old.entries }
+    {
+        if !self.entries.is_full() {
+            self.entries.insert(rank, entry);
+        }
     }
-}
-
-fn move_rank(map: &mut Lists, from: usize, to: usize) {
-    let slot = slot_at(map, from);
-    lists::put(map, ORDER, to, slot);
 }

@@ -7,69 +7,66 @@ pub mod values;
 
 use audits::{lengths, sound};
 use images::memory::Image;
-use images::outputs::Output;
-use images::packing;
-use plainmap::lists::Lists;
-use samples::shapes::Label;
-
-// The kind of the answer to a roster that is taken.
-pub const TAKEN: usize = 9;
+use images::packing::Answer;
+use images::refusals::Refusal;
+use plainmap::PlainMap;
 
 // The longest text.
 const LONGEST: usize = 16384;
 
-// The answer where the refusal is 0: so many records went in; else the record of that number is refused.
-pub fn answer(records: usize, refusal: usize) -> usize {
-    if refusal == 0 {
-        return packing::plain(TAKEN, records);
+// What taking a text is to say, on an image's memory, which the map stands for where it is sound. The records that are
+// to go in are held by the map afterwards.
+pub fn judge(image: &Image, text: &[u8], map: &mut PlainMap) -> Answer {
+    match admit(image, text) {
+        Ok(()) => hold_all(text, map, sound::is_sound(image)),
+        Err(refusal) => Answer::refused(refusal),
     }
-    packing::counted(packing::REFUSED, 0, 0, refusal, records)
 }
 
-// What taking the first bytes of a text, so many, is to say, on an image's memory, which the map stands for where it is
-// sound. The records that are to go in are held by the map afterwards.
-pub fn judge(image: &Image, text: &Output, n: usize, map: &mut Lists) -> usize {
-    let refusal = lengths::lent_refusal(image);
-    if refusal > 0 {
-        return answer(0, refusal);
+// Refuses memory by its lengths, then a text by its own.
+fn admit(image: &Image, text: &[u8]) -> Result<(), Refusal> {
+    lengths::admit_lent(image)?;
+    if text.len() > LONGEST {
+        return Err(Refusal::LongText);
     }
-    if n > LONGEST {
-        return answer(0, 12);
-    }
-    hold_all(text, n, map, sound::is_sound(image))
+    Ok(())
 }
 
 // Each record has a byte at least, so they are no more than the text's bytes.
-fn hold_all(text: &Output, n: usize, map: &mut Lists, is_sound: bool) -> usize {
-    let mut at = 0usize;
-    for k in 0..n {
-        if at >= n {
-            return answer(k, 0);
+fn hold_all(text: &[u8], map: &mut PlainMap, is_sound: bool) -> Answer {
+    let mut at = 0;
+    for k in 0..text.len() {
+        if at >= text.len() {
+            return Answer::Taken(k);
         }
-        let mut label = Label::EMPTY;
-        let read = machine::read(text, n, at, &mut label);
-        let value = values::value(text, read);
-        let refusal = hold(map, label.as_slice(), value, is_sound);
-        if refusal > 0 {
-            return answer(k + 1, refusal);
+        let read = machine::read(text, at);
+        let value = values::value(text, &read);
+        if let Err(refusal) = hold(map, read.label.as_slice(), value, is_sound) {
+            return Answer::Refused {
+                refusal,
+                record: k + 1,
+            };
         }
         at = read.end;
     }
-    answer(n, 0)
+    Answer::Taken(text.len())
 }
 
-// Holds a record's label with its value, or gives the number that refuses it. Memory that is not sound lets no record
-// in, so its refusal is the first one's.
-fn hold(map: &mut Lists, label: &[u8], value: usize, is_sound: bool) -> usize {
-    if value == values::NO_VALUE {
-        return 13;
-    }
-    if is_sound {
-        return plainmap::insert(map, label, (value % 65536) as u16).refusal;
-    }
+// Holds a record's label with its value. Memory that is not sound lets no record in, so its refusal is the first one's.
+fn hold(
+    map: &mut PlainMap,
+    label: &[u8],
+    value: Option<u16>,
+    is_sound: bool,
+) -> Result<(), Refusal> {
+    let value = value.ok_or(Refusal::BrokenRecord)?;
     match label.len() {
-        0 => 3,
-        1..=64 => 6,
-        _ => 4,
+        _ if is_sound => {
+            map.insert(label, value)?;
+            Ok(())
+        }
+        0 => Err(Refusal::EmptyLabel),
+        1..=64 => Err(Refusal::NotSound),
+        _ => Err(Refusal::LongLabel),
     }
 }

@@ -2,7 +2,8 @@
 use crate::counts::Count;
 use crate::hexes::Hex;
 use crate::{Report, Round};
-use images::packing;
+use images::packing::{Answer, NoAnswer};
+use images::refusals::Refusal;
 use samples::calls::Call;
 use samples::shapes::Shape;
 use std::io::Write;
@@ -41,18 +42,18 @@ impl Tally {
         self.count_end(call, round.said);
         self.most.raise_to(held);
         self.reached.add_if(round.reached);
-        self.longest.raise_to(packing::written(round.said));
+        self.longest.raise_to(round.written());
         self.mismatches.add_if(round.agrees.is_err());
     }
 
     // Counts a call's end by its answer.
-    fn count_end(&mut self, call: Call, said: usize) {
-        match packing::kind(said) {
-            packing::REFUSED => self.count_refusal(packing::one(said)),
-            packing::FOUND => self.found.add(1),
-            packing::ABSENT => self.absent.add(1),
-            packing::SAVED => self.saved.add(1),
-            packing::LOADED => self.loaded.add(1),
+    fn count_end(&mut self, call: Call, said: Result<Answer, NoAnswer>) {
+        match said {
+            Ok(Answer::Refused { refusal, .. }) => self.count_refusal(refusal),
+            Ok(Answer::Found { .. }) => self.found.add(1),
+            Ok(Answer::Absent { .. }) => self.absent.add(1),
+            Ok(Answer::Saved(_)) => self.saved.add(1),
+            Ok(Answer::Loaded(_)) => self.loaded.add(1),
             _ => match call {
                 Call::Insert => self.inserted.add(1),
                 Call::SetCharge => self.charged.add(1),
@@ -61,12 +62,12 @@ impl Tally {
         }
     }
 
-    fn count_refusal(&mut self, number: usize) {
+    fn count_refusal(&mut self, refusal: Refusal) {
         self.refused.add(1);
-        match number {
-            18 => self.broken.add(1),
-            19 => self.not_ascending.add(1),
-            20 => self.bytes_after.add(1),
+        match refusal {
+            Refusal::BrokenFile => self.broken.add(1),
+            Refusal::NotAscending => self.not_ascending.add(1),
+            Refusal::BytesAfter => self.bytes_after.add(1),
             _ => {}
         }
     }

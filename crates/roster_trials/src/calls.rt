@@ -1,11 +1,11 @@
 // The call on the memory that an image holds, lent at the lengths that it says.
 use images::memory::Image;
-use images::outputs::Output;
+use images::packing::{Answer, NoAnswer};
 
-// Takes the first bytes of a text, so many, on an image's memory; the answer in one number.
-pub fn take(image: &mut Image, text: &Output, n: usize) -> usize {
-    match (image.table_and_store_mut(), text.get(..n)) {
-        (Some((table, store)), Some(text)) => exports::strap_take_roster(table, store, text),
-        _ => 0,
+// Takes a text on an image's memory.
+pub fn take(image: &mut Image, text: &[u8]) -> Result<Answer, NoAnswer> {
+    match image.table_and_store_mut() {
+        Some((table, store)) => Answer::try_from(exports::strap_take_roster(table, store, text)),
+        None => Err(NoAnswer(0)),
     }
 }

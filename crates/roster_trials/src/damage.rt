@@ -3,7 +3,7 @@ use crate::tallies::Tally;
 use crate::{starts, takings, tallies};
 use images::memory::Image;
 use images::outputs;
-use plainmap::lists::Lists;
+use plainmap::PlainMap;
 use plans::{changes, lengths};
 use reports::Report;
 use samples::numbers;
@@ -15,7 +15,7 @@ use std::io::Stdout;
 const TIMES: usize = 5;
 
 // Takes texts on a table that is changed in each way, where it is not sound then.
-pub fn run(out: Stdout, image: &mut Image, map: &mut Lists) -> io::Result<()> {
+pub fn run(out: Stdout, image: &mut Image, map: &mut PlainMap) -> io::Result<()> {
     starts::prepare(image, map, written::NOT_SOUND);
     let mut report = Report::<Tally>::new(out);
     let mut seed = numbers::SEED;
@@ -34,7 +34,12 @@ pub fn run(out: Stdout, image: &mut Image, map: &mut Lists) -> io::Result<()> {
 }
 
 // Takes the texts for memory that is not sound; where they are for other memory, without what is written by them.
-fn take_all(report: &mut Report<Tally>, image: &Image, map: &Lists, other: bool) -> io::Result<()> {
+fn take_all(
+    report: &mut Report<Tally>,
+    image: &Image,
+    map: &PlainMap,
+    other: bool,
+) -> io::Result<()> {
     let mut text = outputs::fresh();
     for i in 1..32 {
         let mut sheet = written::write(&mut text, written::NOT_SOUND, i, 0);
@@ -49,7 +54,7 @@ fn take_all(report: &mut Report<Tally>, image: &Image, map: &Lists, other: bool)
 }
 
 // Takes the same texts on memory of each pair of lengths.
-pub fn run_lent(out: Stdout, image: &mut Image, map: &mut Lists) -> io::Result<()> {
+pub fn run_lent(out: Stdout, image: &mut Image, map: &mut PlainMap) -> io::Result<()> {
     starts::prepare(image, map, written::NOT_SOUND);
     let mut report = Report::<Tally>::new(out);
     for pair in 0..lengths::PAIRS {

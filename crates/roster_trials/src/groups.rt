@@ -4,7 +4,7 @@ use crate::{starts, takings, tallies};
 use images::memory::Image;
 use images::outputs;
 use images::outputs::Output;
-use plainmap::lists::Lists;
+use plainmap::PlainMap;
 use plans::bytes;
 use reports::Report;
 use samples::numbers;
@@ -23,7 +23,7 @@ const SMALL: usize = 100;
 pub fn run_written(
     out: Stdout,
     image: &mut Image,
-    map: &mut Lists,
+    map: &mut PlainMap,
     group: usize,
     bytes: usize,
 ) -> io::Result<()> {
@@ -44,7 +44,7 @@ pub fn run_written(
 }
 
 // Takes small texts, cut short at each byte.
-pub fn run_cut(out: Stdout, image: &mut Image, map: &mut Lists) -> io::Result<()> {
+pub fn run_cut(out: Stdout, image: &mut Image, map: &mut PlainMap) -> io::Result<()> {
     starts::prepare(image, map, written::SMALL);
     let mut report = Report::new(out);
     let mut text = outputs::fresh();
@@ -63,7 +63,7 @@ pub fn run_cut(out: Stdout, image: &mut Image, map: &mut Lists) -> io::Result<()
 const WAYS: usize = 10;
 
 // Takes small texts, with each byte changed in each way.
-pub fn run_changed(out: Stdout, image: &mut Image, map: &mut Lists) -> io::Result<()> {
+pub fn run_changed(out: Stdout, image: &mut Image, map: &mut PlainMap) -> io::Result<()> {
     starts::prepare(image, map, written::SMALL);
     let mut report = Report::new(out);
     let mut text = outputs::fresh();
@@ -95,7 +95,7 @@ fn changed(text: &Output, at: usize, way: usize) -> Output {
 }
 
 // Takes texts of many names, one after the other, with deletes among them.
-pub fn run_names(out: Stdout, image: &mut Image, map: &mut Lists) -> io::Result<()> {
+pub fn run_names(out: Stdout, image: &mut Image, map: &mut PlainMap) -> io::Result<()> {
     let mut report = Report::<Tally>::new(out);
     for i in 0..names::STEPS {
         let step = names::at(i);
@@ -120,7 +120,12 @@ const DRAWN: usize = 3000;
 const BY_ONE: usize = 40;
 
 // Takes drawn texts one after the other, with the table emptied now and then.
-pub fn run_drawn(out: Stdout, image: &mut Image, map: &mut Lists, changed: bool) -> io::Result<()> {
+pub fn run_drawn(
+    out: Stdout,
+    image: &mut Image,
+    map: &mut PlainMap,
+    changed: bool,
+) -> io::Result<()> {
     let mut report = Report::new(out);
     let mut seed = numbers::SEED;
     for i in 0..DRAWN {

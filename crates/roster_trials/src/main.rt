@@ -13,13 +13,14 @@ mod tallies;
 
 use images::memory::Image;
 use images::sizes::Sizes;
+use plainmap::PlainMap;
 use sheets::written;
 use std::io;
 
 fn main(rt: HostRuntime) -> io::Result<()> {
     let out = rt.stdout();
     let mut image = Image::fresh(Sizes::HUB);
-    let mut map = [0u16; 35910];
+    let mut map = PlainMap::new(512, 64);
     for group in 0..written::NOT_SOUND {
         groups::run_written(out, &mut image, &mut map, group, 1)?;
     }

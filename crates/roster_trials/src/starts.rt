@@ -3,19 +3,20 @@ use crate::takings;
 use comparisons::Request;
 use images::memory::Image;
 use images::outputs;
-use plainmap::lists::Lists;
+use plainmap::PlainMap;
 use samples::calls::Call;
 use sheets::names::Step;
 use sheets::{names, written};
 
 // Empties an index and a map.
-pub fn empty(image: &mut Image, map: &mut Lists) {
-    rounds::calls::make(image, Request::bare(Call::Layout));
-    plainmap::clear(map, 512, 64);
+pub fn empty(image: &mut Image, map: &mut PlainMap) {
+    // What is left is compared after the first text.
+    let _ = rounds::calls::make(image, Request::bare(Call::Layout));
+    *map = PlainMap::new(512, 64);
 }
 
 // Prepares the table of a group of written texts.
-pub fn prepare(image: &mut Image, map: &mut Lists, group: usize) {
+pub fn prepare(image: &mut Image, map: &mut PlainMap, group: usize) {
     empty(image, map);
     match group {
         written::FULL => hold(image, map, names::held(512)),
@@ -26,22 +27,24 @@ pub fn prepare(image: &mut Image, map: &mut Lists, group: usize) {
     }
 }
 
-fn hold_some(image: &mut Image, map: &mut Lists, straps: usize, freed: Step) {
+fn hold_some(image: &mut Image, map: &mut PlainMap, straps: usize, freed: Step) {
     hold(image, map, names::held(straps));
     free(image, map, freed);
 }
 
 // Inserts the names of a step, one by one.
-fn hold(image: &mut Image, map: &mut Lists, step: Step) {
+fn hold(image: &mut Image, map: &mut PlainMap, step: Step) {
     let mut text = outputs::fresh();
     let sheet = names::write(&mut text, step);
-    readings::judge(image, &text, sheet.bytes, map);
-    takings::each(image, map, &text, sheet.bytes, step.names, Call::Insert);
+    let text = text.get(..sheet.bytes).unwrap_or(&text);
+    readings::judge(image, text, map);
+    takings::insert_each(image, text, step.names);
 }
 
 // Deletes the names of a step, one by one; whether none is refused.
-pub fn free(image: &mut Image, map: &mut Lists, step: Step) -> bool {
+pub fn free(image: &mut Image, map: &mut PlainMap, step: Step) -> bool {
     let mut text = outputs::fresh();
     let sheet = names::write(&mut text, step);
-    takings::each(image, map, &text, sheet.bytes, step.names, Call::Delete)
+    let text = text.get(..sheet.bytes).unwrap_or(&text);
+    takings::delete_each(image, map, text, step.names)
 }

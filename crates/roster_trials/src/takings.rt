@@ -4,14 +4,14 @@ use crate::{calls, tallies};
 use comparisons::Request;
 use images::memory::Image;
 use images::outputs::Output;
-use images::packing;
-use plainmap::lists::Lists;
+use images::packing::{Answer, NoAnswer};
+use images::refusals::Refusal;
+use plainmap::PlainMap;
 use readings::{machine, values};
 use reports::Report;
 use reports::faults::{Fault, ensure};
 use rounds::states;
 use samples::calls::Call;
-use samples::shapes::Label;
 use sheets::Sheet;
 use std::io;
 
@@ -19,21 +19,19 @@ use std::io;
 pub fn made(
     report: &mut Report<Tally>,
     image: &mut Image,
-    map: &mut Lists,
+    map: &mut PlainMap,
     text: &Output,
     sheet: Sheet,
 ) -> io::Result<()> {
     let found = *image;
-    let due = readings::judge(image, text, sheet.bytes, map);
-    let said = calls::take(image, text, sheet.bytes);
-    let agrees = match compare_said(sheet, due, said) {
-        Ok(()) => compare_left(&found, image, map, text, sheet.bytes, said),
-        Err(fault) => Err(fault),
-    };
-    report.tally.count(said, entered(said), agrees.is_ok());
+    let text = text.get(..sheet.bytes).unwrap_or(text);
+    let due = readings::judge(image, text, map);
+    let said = calls::take(image, text);
+    let agrees = compare(&found, image, map, text, sheet, due, said);
+    report.tally.count(said, agrees.is_ok());
     match agrees {
         Ok(()) => Ok(()),
-        Err(fault) => tallies::print_mismatch(report, text, sheet.bytes, due, said, fault),
+        Err(fault) => tallies::print_mismatch(report, text, due, said, fault),
     }
 }
 
@@ -41,30 +39,51 @@ pub fn made(
 pub fn tried(
     report: &mut Report<Tally>,
     image: &Image,
-    map: &Lists,
+    map: &PlainMap,
     text: &Output,
     sheet: Sheet,
 ) -> io::Result<()> {
     let mut copy = *image;
-    let mut other = *map;
+    let mut other = map.clone()?;
     made(report, &mut copy, &mut other, text, sheet)
 }
 
-// Compares an answer with the one that is due, and with what is written by the text.
-fn compare_said(sheet: Sheet, due: usize, said: usize) -> Result<(), Fault> {
-    ensure(said == due, Fault::Answer)?;
+// Compares an answer with the one that is due, and with what is written by the text, and then what is left.
+fn compare(
+    found: &Image,
+    left: &Image,
+    map: &PlainMap,
+    text: &[u8],
+    sheet: Sheet,
+    due: Answer,
+    said: Result<Answer, NoAnswer>,
+) -> Result<(), Fault> {
+    ensure(said == Ok(due), Fault::Answer)?;
     ensure(
-        sheet.refusal == sheets::ANY || said == readings::answer(sheet.records, sheet.refusal),
+        sheet.refusal == sheets::ANY || written_by(sheet) == Some(due),
         Fault::Sheet,
-    )
+    )?;
+    compare_left(found, left, map, text, entered(due))
+}
+
+// The answer that is written by a text.
+fn written_by(sheet: Sheet) -> Option<Answer> {
+    if sheet.refusal == 0 {
+        return Some(Answer::Taken(sheet.records));
+    }
+    let refusal = Refusal::from_number(sheet.refusal)?;
+    Some(Answer::Refused {
+        refusal,
+        record: sheet.records,
+    })
 }
 
 // How many records went in, by the answer: all, or those before the one that is refused.
-fn entered(said: usize) -> usize {
-    if packing::kind(said) == readings::TAKEN {
-        packing::one(said)
-    } else {
-        packing::other(said).saturating_sub(1)
+pub fn entered(said: Answer) -> usize {
+    match said {
+        Answer::Taken(records) => records,
+        Answer::Refused { record, .. } => record.saturating_sub(1),
+        _ => 0,
     }
 }
 
@@ -72,18 +91,12 @@ fn entered(said: usize) -> usize {
 fn compare_left(
     found: &Image,
     left: &Image,
-    map: &Lists,
-    text: &Output,
-    n: usize,
-    said: usize,
+    map: &PlainMap,
+    text: &[u8],
+    records: usize,
 ) -> Result<(), Fault> {
     let mut due = *found;
-    let mut other = *map;
-    let records = entered(said);
-    ensure(
-        each(&mut due, &mut other, text, n, records, Call::Insert),
-        Fault::Inserts,
-    )?;
+    ensure(insert_each(&mut due, text, records), Fault::Inserts)?;
     ensure(due == *left, Fault::Memory)?;
     if records == 0 {
         return Ok(());
@@ -91,36 +104,43 @@ fn compare_left(
     states::compare_map(left, map)
 }
 
-// Makes the public call, an insert or a delete, for each of the first records of a text, so many, on an image's memory,
-// and a delete on the map too; whether none is refused.
-pub fn each(
-    image: &mut Image,
-    map: &mut Lists,
-    text: &Output,
-    n: usize,
-    records: usize,
-    call: Call,
-) -> bool {
-    let mut at = 0usize;
+// Makes the public insert of each of the first records of a text, so many, on an image's memory; whether none is
+// refused.
+pub fn insert_each(image: &mut Image, text: &[u8], records: usize) -> bool {
+    let mut at = 0;
     let mut done = true;
     for _ in 0..records {
-        let mut label = Label::EMPTY;
-        let read = machine::read(text, n, at, &mut label);
+        let read = machine::read(text, at);
         let request = Request {
-            call,
-            label: label.as_slice(),
-            number: values::value(text, read),
+            call: Call::Insert,
+            label: read.label.as_slice(),
+            number: values::value(text, &read).map_or(0, usize::from),
         };
-        done = updated(image, map, request) && done;
+        done = is_update(rounds::calls::make(image, request)) && done;
         at = read.end;
     }
     done
 }
 
-fn updated(image: &mut Image, map: &mut Lists, request: Request) -> bool {
-    if request.call == Call::Delete {
+// Makes the public delete of each of the first records of a text, so many, on an image's memory and on the map; whether
+// none is refused.
+pub fn delete_each(image: &mut Image, map: &mut PlainMap, text: &[u8], records: usize) -> bool {
+    let mut at = 0;
+    let mut done = true;
+    for _ in 0..records {
+        let read = machine::read(text, at);
+        let request = Request {
+            call: Call::Delete,
+            label: read.label.as_slice(),
+            number: 0,
+        };
         let round = rounds::made(image, map, request);
-        return round.agrees.is_ok() && packing::kind(round.said) == packing::UPDATED;
+        done = round.agrees.is_ok() && is_update(round.said) && done;
+        at = read.end;
     }
-    packing::kind(rounds::calls::make(image, request)) == packing::UPDATED
+    done
+}
+
+fn is_update(said: Result<Answer, NoAnswer>) -> bool {
+    matches!(said, Ok(Answer::Updated { .. }))
 }

@@ -1,6 +1,7 @@
 // What a group counts, and the lines that are printed.
-use images::outputs::Output;
-use images::packing;
+use crate::takings;
+use images::packing::{Answer, NoAnswer};
+use images::refusals::Refusal;
 use reports::Report;
 use reports::counts::Count;
 use reports::faults::Fault;
@@ -30,26 +31,30 @@ pub struct Tally {
 }
 
 impl Tally {
-    // Counts a call that let so many records in.
-    pub fn count(&mut self, said: usize, records: usize, agrees: bool) {
+    // Counts a call, by its answer.
+    pub fn count(&mut self, said: Result<Answer, NoAnswer>, agrees: bool) {
         self.calls.add(1);
-        self.count_end(packing::refusal(said));
-        self.records.add(records);
+        if let Ok(said) = said {
+            match said.refusal() {
+                Some(refusal) => self.count_refusal(refusal),
+                None => self.taken.add(1),
+            }
+            self.records.add(takings::entered(said));
+        }
         self.mismatches.add_if(!agrees);
     }
 
-    fn count_end(&mut self, refusal: usize) {
+    fn count_refusal(&mut self, refusal: Refusal) {
         match refusal {
-            0 => self.taken.add(1),
-            1 => self.table.add(1),
-            2 => self.store.add(1),
-            12 => self.long_text.add(1),
-            13 => self.broken.add(1),
-            3 => self.no_label.add(1),
-            4 => self.long_label.add(1),
-            6 => self.not_sound.add(1),
-            7 => self.held.add(1),
-            9 => self.full.add(1),
+            Refusal::WrongTable => self.table.add(1),
+            Refusal::WrongStore => self.store.add(1),
+            Refusal::LongText => self.long_text.add(1),
+            Refusal::BrokenRecord => self.broken.add(1),
+            Refusal::EmptyLabel => self.no_label.add(1),
+            Refusal::LongLabel => self.long_label.add(1),
+            Refusal::NotSound => self.not_sound.add(1),
+            Refusal::AlreadyHeld => self.held.add(1),
+            Refusal::Full => self.full.add(1),
             _ => {}
         }
     }
@@ -86,28 +91,25 @@ pub fn print(report: &mut Report<Tally>, title: &str) -> io::Result<()> {
 // bytes.
 pub fn print_mismatch(
     report: &mut Report<Tally>,
-    text: &Output,
-    n: usize,
-    due: usize,
-    said: usize,
+    text: &[u8],
+    due: Answer,
+    said: Result<Answer, NoAnswer>,
     fault: Fault,
 ) -> io::Result<()> {
-    let due_refusal = packing::refusal(due);
-    let due_record = record(due);
-    let said_refusal = packing::refusal(said);
-    let said_record = record(said);
-    let text = Hex(&text[..n.min(120)]);
+    let (due_refusal, due_record) = refusal_and_record(Ok(due));
+    let (said_refusal, said_record) = refusal_and_record(said);
+    let text = Hex(text.get(..120).unwrap_or(text));
     writeln!(
         report.out,
         "mismatch: {fault}, due {due_refusal} at {due_record}, said {said_refusal} at {said_record}, text {text}"
     )
 }
 
-// The record that is refused, or how many went in.
-fn record(answer: usize) -> usize {
-    if packing::kind(answer) == packing::REFUSED {
-        packing::other(answer)
-    } else {
-        packing::one(answer)
+// The refusal's number, 0 for none, and the record that is refused, or how many went in.
+fn refusal_and_record(said: Result<Answer, NoAnswer>) -> (usize, usize) {
+    match said {
+        Ok(Answer::Refused { refusal, record }) => (refusal.number(), record),
+        Ok(Answer::Taken(records)) => (0, records),
+        _ => (0, 0),
     }
 }

@@ -2,11 +2,11 @@
 use crate::indexes::{Hub, Index, Page};
 use comparisons::Request;
 use images::memory::Image;
-use images::packing;
+use images::packing::{Answer, NoAnswer};
 use samples::calls::Call;
 
-// Makes a call on an image's memory; the answer in one number.
-pub fn make(image: &mut Image, request: Request) -> usize {
+// Makes a call on an image's memory.
+pub fn make(image: &mut Image, request: Request) -> Result<Answer, NoAnswer> {
     if image.is_page() {
         make_on::<Page>(image, request)
     } else {
@@ -14,18 +14,18 @@ pub fn make(image: &mut Image, request: Request) -> usize {
     }
 }
 
-fn make_on<I: Index>(image: &mut Image, request: Request) -> usize {
+fn make_on<I: Index>(image: &mut Image, request: Request) -> Result<Answer, NoAnswer> {
     match request.call {
         Call::Listing => list::<I>(image),
         Call::View => put_view::<I>(image, request.number),
         _ => match image.table_and_store_mut() {
-            Some((table, store)) => on_label::<I>(table, store, request),
-            None => 0,
+            Some((table, store)) => Answer::try_from(on_label::<I>(table, store, request)),
+            None => Err(NoAnswer(0)),
         },
     }
 }
 
-// Makes any other call but a save and a load.
+// Makes any other call but a save and a load; the answer in one number.
 fn on_label<I: Index>(table: &mut [u16], store: &mut [u8], request: Request) -> usize {
     let Request {
         call,
@@ -46,18 +46,18 @@ fn on_label<I: Index>(table: &mut [u16], store: &mut [u8], request: Request) -> 
 }
 
 // Makes a listing into the first words of the list.
-fn list<I: Index>(image: &mut Image) -> usize {
+fn list<I: Index>(image: &mut Image) -> Result<Answer, NoAnswer> {
     let mut list = image.list;
     let said = match (image.table_and_store(), list.get_mut(..image.lent.room)) {
-        (Some((table, store)), Some(list)) => I::listing(table, store, list),
-        _ => 0,
+        (Some((table, store)), Some(list)) => Answer::try_from(I::listing(table, store, list)),
+        _ => Err(NoAnswer(0)),
     };
     image.list = list;
     said
 }
 
 // Puts the view's bytes, which come from the index itself, into the list.
-fn put_view<I: Index>(image: &mut Image, slot: usize) -> usize {
+fn put_view<I: Index>(image: &mut Image, slot: usize) -> Result<Answer, NoAnswer> {
     let mut list = image.list;
     let said = match image.table_and_store() {
         Some((table, store)) => {
@@ -65,9 +65,9 @@ fn put_view<I: Index>(image: &mut Image, slot: usize) -> usize {
             for (word, byte) in list.iter_mut().zip(part.iter()) {
                 *word = u16::from(*byte);
             }
-            packing::plain(packing::VIEWED, part.len())
+            Ok(Answer::Viewed(part.len()))
         }
-        None => 0,
+        None => Err(NoAnswer(0)),
     };
     image.list = list;
     said

@@ -9,24 +9,39 @@ pub mod states;
 
 use comparisons::{Request, answers, judged};
 use images::memory::Image;
-use plainmap::lists::Lists;
+use images::packing::{Answer, NoAnswer};
+use plainmap::PlainMap;
 use reports::Round;
+use reports::faults::Fault;
 
 // Makes a search or an update on a sound table and the map, and compares the answer and what is left.
-pub fn made(image: &mut Image, map: &mut Lists, request: Request) -> Round {
+pub fn made(image: &mut Image, map: &mut PlainMap, request: Request) -> Round {
     let found = *image;
-    let shared = plainmap::most_shared(map, request.label);
+    let shared = map.most_shared(request.label);
     let said = calls::make(image, request);
     let plain = answers::on_map(map, request);
-    let answered = answers::compare(&found, request, shared, said, plain);
     Round {
-        agrees: match answered {
-            Ok(()) => states::compare(&found, image, map, request.call, said),
-            Err(fault) => Err(fault),
-        },
+        agrees: compare(&found, image, map, request, shared, said, plain),
         said,
-        reached: answers::reached(&found, request.label, shared, said),
+        reached: match said {
+            Ok(answer) => answers::reached(&found, request.label, shared, answer),
+            Err(_) => false,
+        },
     }
+}
+
+fn compare(
+    found: &Image,
+    left: &Image,
+    map: &PlainMap,
+    request: Request,
+    shared: usize,
+    said: Result<Answer, NoAnswer>,
+    plain: Answer,
+) -> Result<(), Fault> {
+    let said = said.map_err(|_| Fault::Answer)?;
+    answers::compare(found, request, shared, said, plain)?;
+    states::compare(found, left, map, request.call, said)
 }
 
 // Makes any call on any memory, which stays, and compares the answer and what is left with the second writing's; where
@@ -36,7 +51,10 @@ pub fn tried(image: &Image, request: Request) -> Round {
     let mut left = *image;
     let said = calls::make(&mut left, request);
     Round {
-        agrees: judged::compare(image, &left, request, said),
+        agrees: match said {
+            Ok(answer) => judged::compare(image, &left, request, answer),
+            Err(_) => Err(Fault::Answer),
+        },
         said,
         reached: false,
     }

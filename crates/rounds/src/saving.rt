@@ -4,28 +4,32 @@ use comparisons::saves;
 use images::memory::Image;
 use images::outputs;
 use images::outputs::Output;
-use plainmap::lists::Lists;
+use images::packing::{Answer, NoAnswer};
+use plainmap::PlainMap;
 use reports::Round;
 use reports::faults::Fault;
 
 // Makes a save into the first bytes of an output, so many, and compares the answer and the whole output.
-pub fn made(image: &Image, map: &Lists, room: usize) -> Round {
+pub fn made(image: &Image, map: &PlainMap, room: usize) -> Round {
     let mut output = outputs::fresh();
     into(image, map, &mut output, room)
 }
 
 // The same, and leaves the output, which is fresh before.
-pub fn into(image: &Image, map: &Lists, output: &mut Output, room: usize) -> Round {
+pub fn into(image: &Image, map: &PlainMap, output: &mut Output, room: usize) -> Round {
     let said = make(image, output, room);
     Round {
-        agrees: saves::compare(image, map, output, room, said),
+        agrees: match said {
+            Ok(answer) => saves::compare(image, map, output, room, answer),
+            Err(_) => Err(Fault::Answer),
+        },
         said,
         reached: false,
     }
 }
 
 // Makes a save that is to leave an output as another save left one.
-pub fn again(image: &Image, map: &Lists, before: &Output) -> Round {
+pub fn again(image: &Image, map: &PlainMap, before: &Output) -> Round {
     let mut output = outputs::fresh();
     let mut round = into(image, map, &mut output, outputs::ALL);
     if *before != output {
@@ -34,9 +38,11 @@ pub fn again(image: &Image, map: &Lists, before: &Output) -> Round {
     round
 }
 
-fn make(image: &Image, output: &mut Output, room: usize) -> usize {
+fn make(image: &Image, output: &mut Output, room: usize) -> Result<Answer, NoAnswer> {
     match (image.table_and_store(), output.get_mut(..room)) {
-        (Some((table, store)), Some(output)) => exports::strap_save(table, store, output),
-        _ => 0,
+        (Some((table, store)), Some(output)) => {
+            Answer::try_from(exports::strap_save(table, store, output))
+        }
+        _ => Err(NoAnswer(0)),
     }
 }

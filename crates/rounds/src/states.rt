@@ -3,8 +3,8 @@ use crate::calls;
 use crate::indexes::{Hub, Index, Page};
 use comparisons::Request;
 use images::memory::Image;
-use images::packing;
-use plainmap::lists::Lists;
+use images::packing::Answer;
+use plainmap::PlainMap;
 use reports::faults::{Fault, ensure};
 use samples::calls::Call;
 
@@ -12,25 +12,25 @@ use samples::calls::Call;
 pub fn compare(
     found: &Image,
     left: &Image,
-    map: &Lists,
+    map: &PlainMap,
     call: Call,
-    said: usize,
+    said: Answer,
 ) -> Result<(), Fault> {
     comparisons::states::compare(found, left, map, call, said)?;
     compare_calls(left, map)
 }
 
 // Compares memory with what the map holds, by the second writing, then by the index's own calls.
-pub fn compare_map(left: &Image, map: &Lists) -> Result<(), Fault> {
+pub fn compare_map(left: &Image, map: &PlainMap) -> Result<(), Fault> {
     comparisons::states::compare_map(left, map)?;
     compare_calls(left, map)
 }
 
-fn compare_calls(left: &Image, map: &Lists) -> Result<(), Fault> {
+fn compare_calls(left: &Image, map: &PlainMap) -> Result<(), Fault> {
     let mut copy = *left;
     let listed = calls::make(&mut copy, Request::bare(Call::Listing));
     ensure(
-        comparisons::states::listing_agrees(&copy, map, listed),
+        listed == Ok(Answer::Listed(map.held())) && comparisons::states::list_agrees(&copy, map),
         Fault::Listing,
     )?;
     match left.table_and_store() {
@@ -40,14 +40,12 @@ fn compare_calls(left: &Image, map: &Lists) -> Result<(), Fault> {
     }
 }
 
-fn compare_reads<I: Index>(table: &[u16], store: &[u8], map: &Lists) -> Result<(), Fault> {
-    ensure(
-        I::check(table, store) == packing::plain(packing::DONE, 0),
-        Fault::Check,
-    )?;
-    let agree = (0..plainmap::held(map)).all(|i| {
-        let slot = plainmap::slot_at(map, i);
-        comparisons::states::spells(map, slot, I::view(table, store, slot))
-    });
-    ensure(agree, Fault::View)
+fn compare_reads<I: Index>(table: &[u16], store: &[u8], map: &PlainMap) -> Result<(), Fault> {
+    let checked = Answer::try_from(I::check(table, store));
+    ensure(checked == Ok(Answer::Done), Fault::Check)?;
+    for entry in map.entries() {
+        let view = I::view(table, store, entry.slot);
+        ensure(view == entry.label.as_slice(), Fault::View)?;
+    }
+    Ok(())
 }

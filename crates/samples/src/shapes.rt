@@ -14,6 +14,15 @@ impl Label {
         len: 0,
     };
 
+    // The label of these bytes, or of the first of them.
+    pub fn of(bytes: &[u8]) -> Label {
+        let mut label = Label::EMPTY;
+        for byte in bytes {
+            label.push(*byte);
+        }
+        label
+    }
+
     // One more byte, where there is room.
     pub fn push(&mut self, byte: u8) {
         if let Some(place) = self.bytes.get_mut(self.len) {

@@ -3,7 +3,7 @@ use crate::loading;
 use images::memory::Image;
 use images::outputs;
 use images::outputs::Output;
-use plainmap::files;
+use plainmap::{PlainMap, files};
 use plans::bytes;
 use plans::planned::ANY_REFUSAL;
 use reports::Report;
@@ -42,11 +42,11 @@ fn group(shape: Shape, name: &str) -> Group<'_> {
 
 // Writes the file of the first labels of a shape; its length.
 fn write(file: &mut Output, shape: Shape) -> usize {
-    let mut map = [0u16; 35910];
-    plainmap::clear(&mut map, 512, 64);
+    let mut map = PlainMap::new(512, 64);
     for k in 0..bytes::LABELS {
         let value = numbers::value(shape as usize, k);
-        plainmap::insert(&mut map, shape.label(64, k).as_slice(), value);
+        // A label that the map refuses is not in the file.
+        let _ = map.insert(shape.label(64, k).as_slice(), value);
     }
     files::write(file, &map)
 }

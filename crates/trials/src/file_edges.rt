@@ -2,8 +2,8 @@
 // and of loads of these files.
 use crate::{loading, saving, sequences};
 use images::memory::Image;
-use images::{outputs, packing};
-use plainmap::lists::Lists;
+use images::outputs;
+use plainmap::PlainMap;
 use plans::files::Edge;
 use plans::{files, lengths, planned};
 use reports::faults::Fault;
@@ -18,7 +18,7 @@ use std::io::Stdout;
 const NAMES: [&str; files::GROUPS] = ["empty", "values", "values", "counts", "full", "charged"];
 
 // Makes the tables of each group, and prints two lines for each; the hub's index alone has them.
-pub fn run(out: Stdout, image: &mut Image, map: &mut Lists) -> io::Result<()> {
+pub fn run(out: Stdout, image: &mut Image, map: &mut PlainMap) -> io::Result<()> {
     for (group, name) in NAMES.iter().enumerate() {
         run_group(out, image, map, group, name)?;
     }
@@ -28,7 +28,7 @@ pub fn run(out: Stdout, image: &mut Image, map: &mut Lists) -> io::Result<()> {
 fn run_group(
     out: Stdout,
     image: &mut Image,
-    map: &mut Lists,
+    map: &mut PlainMap,
     group: usize,
     name: &str,
 ) -> io::Result<()> {
@@ -51,7 +51,7 @@ fn run_group(
 fn make_table(
     report: &mut Report<Tally>,
     image: &mut Image,
-    map: &mut Lists,
+    map: &mut PlainMap,
     edge: Edge,
 ) -> io::Result<()> {
     sequences::empty(image, map);
@@ -73,7 +73,7 @@ fn make_table(
 fn call_each(
     report: &mut Report<Tally>,
     image: &mut Image,
-    map: &mut Lists,
+    map: &mut PlainMap,
     call: Call,
     edge: Edge,
 ) -> io::Result<()> {
@@ -87,7 +87,7 @@ fn call_each(
 fn on_label(
     report: &mut Report<Tally>,
     image: &mut Image,
-    map: &mut Lists,
+    map: &mut PlainMap,
     call: Call,
     edge: Edge,
     k: usize,
@@ -105,7 +105,7 @@ fn on_label(
 fn charge_each(
     report: &mut Report<Tally>,
     image: &mut Image,
-    map: &mut Lists,
+    map: &mut PlainMap,
     edge: Edge,
 ) -> io::Result<()> {
     let mut before = outputs::fresh();
@@ -123,7 +123,7 @@ fn as_named(round: Round, bytes: usize, room: usize) -> Round {
     if bytes > room {
         return sequences::as_named(round, 17);
     }
-    if packing::written(round.said) == bytes {
+    if round.written() == bytes {
         return round;
     }
     Round {

@@ -2,9 +2,9 @@
 // any file for the other groups. The hub's index alone has them.
 use crate::{saving, sequences};
 use images::memory::Image;
+use images::outputs;
 use images::outputs::Output;
-use images::{outputs, packing};
-use plainmap::lists::Lists;
+use plainmap::PlainMap;
 use plans::lengths;
 use reports::Report;
 use reports::tallies::Tally;
@@ -18,7 +18,12 @@ const EVERY: usize = 64;
 const TURN: usize = 47;
 
 // Saves, loads and saves after call `i` of a sequence, where it is its turn.
-pub fn after(report: &mut Report<Tally>, image: &Image, map: &Lists, i: usize) -> io::Result<()> {
+pub fn after(
+    report: &mut Report<Tally>,
+    image: &Image,
+    map: &PlainMap,
+    i: usize,
+) -> io::Result<()> {
     if image.is_page() || i % EVERY != TURN {
         return Ok(());
     }
@@ -26,20 +31,13 @@ pub fn after(report: &mut Report<Tally>, image: &Image, map: &Lists, i: usize) -
 }
 
 // Saves a table, loads the file, which is to be taken, into other memory, and saves that: the file is the same.
-fn saved(report: &mut Report<Tally>, image: &Image, map: &Lists) -> io::Result<()> {
+fn saved(report: &mut Report<Tally>, image: &Image, map: &PlainMap) -> io::Result<()> {
     let mut file = outputs::fresh();
     let round = rounds::saving::into(image, map, &mut file, outputs::ALL);
     saving::count(report, round)?;
     let mut copy = *image;
-    let mut loaded = [0u16; 35910];
-    into(
-        report,
-        &mut copy,
-        &file,
-        packing::written(round.said),
-        0,
-        &mut loaded,
-    )?;
+    let mut loaded = PlainMap::new(0, 0);
+    into(report, &mut copy, &file, round.written(), 0, &mut loaded)?;
     saving::count(report, rounds::saving::again(&copy, &loaded, &file))
 }
 
@@ -51,11 +49,14 @@ fn into(
     file: &Output,
     n: usize,
     refusal: usize,
-    map: &mut Lists,
+    map: &mut PlainMap,
 ) -> io::Result<()> {
     image.spoil(numbers::mixed(n, refusal));
-    let round = sequences::as_named(rounds::loading::made(image, file, n, map), refusal);
-    report.count(Call::Load, b"", round, plainmap::held(map))
+    let round = sequences::as_named(
+        rounds::loading::made(image, file.get(..n).unwrap_or(file), map),
+        refusal,
+    );
+    report.count(Call::Load, b"", round, map.held())
 }
 
 // Loads a file of so many bytes, which is to have a refusal's number; the image stays.
@@ -67,12 +68,12 @@ pub fn tried(
     refusal: usize,
 ) -> io::Result<()> {
     let mut copy = *image;
-    let mut map = [0u16; 35910];
+    let mut map = PlainMap::new(0, 0);
     into(report, &mut copy, file, n, refusal, &mut map)
 }
 
 // Loads the file of a table, then of its bytes one less, one more, far more, and none.
-pub fn at_edge(report: &mut Report<Tally>, image: &Image, map: &Lists) -> io::Result<()> {
+pub fn at_edge(report: &mut Report<Tally>, image: &Image, map: &PlainMap) -> io::Result<()> {
     saved(report, image, map)?;
     let mut file = outputs::fresh();
     let n = plainmap::files::write(&mut file, map);

@@ -15,7 +15,7 @@ mod written_files;
 
 use images::memory::Image;
 use images::sizes::Sizes;
-use plainmap::lists::Lists;
+use plainmap::PlainMap;
 use plans::groups;
 use plans::groups::Plan;
 use std::io;
@@ -30,7 +30,7 @@ fn main(rt: HostRuntime) -> io::Result<()> {
 // All groups on the index of these sizes.
 fn run_index(out: Stdout, sizes: Sizes) -> io::Result<()> {
     let mut image = Image::fresh(sizes);
-    let mut map = [0u16; 35910];
+    let mut map = PlainMap::new(sizes.slots, sizes.width);
     for group in 0..groups::GROUPS {
         let plan = groups::plan_of(group, sizes.slots);
         run_plan(out, &mut image, &mut map, plan)?;
@@ -50,7 +50,7 @@ fn run_index(out: Stdout, sizes: Sizes) -> io::Result<()> {
 }
 
 // A group, and the damaged memories of a table that it prepared; nothing where the index does not have its calls.
-fn run_plan(out: Stdout, image: &mut Image, map: &mut Lists, plan: Plan) -> io::Result<()> {
+fn run_plan(out: Stdout, image: &mut Image, map: &mut PlainMap, plan: Plan) -> io::Result<()> {
     if groups::is_hubs(plan) && image.is_page() {
         return Ok(());
     }

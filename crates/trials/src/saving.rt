@@ -2,8 +2,7 @@
 // them.
 use comparisons::saves;
 use images::memory::Image;
-use plainmap::files;
-use plainmap::lists::Lists;
+use plainmap::{PlainMap, files};
 use plans::lengths;
 use reports::tallies::{Group, Tally};
 use reports::{Report, Round};
@@ -17,7 +16,12 @@ use std::io::Stdout;
 const EVERY: usize = 16;
 
 // Makes a save after call `i` of a sequence, where it is its turn.
-pub fn after(report: &mut Report<Tally>, image: &Image, map: &Lists, i: usize) -> io::Result<()> {
+pub fn after(
+    report: &mut Report<Tally>,
+    image: &Image,
+    map: &PlainMap,
+    i: usize,
+) -> io::Result<()> {
     if image.is_page() || i % EVERY != EVERY - 1 {
         return Ok(());
     }
@@ -36,7 +40,12 @@ pub fn on_damaged(report: &mut Report<Tally>, image: &Image, seed: u64) -> io::R
 }
 
 // Makes a save into as many bytes as the map's file has, one less, one more, or all, in turn.
-fn in_turn(report: &mut Report<Tally>, image: &Image, map: &Lists, turn: usize) -> io::Result<()> {
+fn in_turn(
+    report: &mut Report<Tally>,
+    image: &Image,
+    map: &PlainMap,
+    turn: usize,
+) -> io::Result<()> {
     let room = lengths::output(turn % lengths::TURNS, files::length(map));
     count(report, rounds::saving::made(image, map, room))
 }

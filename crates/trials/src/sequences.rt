@@ -2,8 +2,8 @@
 use crate::{loading, saving};
 use comparisons::Request;
 use images::memory::Image;
-use images::packing;
-use plainmap::lists::Lists;
+use images::refusals::Refusal;
+use plainmap::PlainMap;
 use plans::groups;
 use plans::groups::Plan;
 use plans::planned::{ANY_REFUSAL, Planned};
@@ -16,7 +16,7 @@ use std::io;
 use std::io::Stdout;
 
 // Makes a group's calls on an empty index and map, and prints its line.
-pub fn run(out: Stdout, image: &mut Image, map: &mut Lists, plan: Plan) -> io::Result<()> {
+pub fn run(out: Stdout, image: &mut Image, map: &mut PlainMap, plan: Plan) -> io::Result<()> {
     empty(image, map);
     let mut report = Report::new(out);
     let mut saves = Report::new(out);
@@ -58,16 +58,17 @@ fn name(way: usize) -> &'static str {
 }
 
 // Empties an index and a map.
-pub fn empty(image: &mut Image, map: &mut Lists) {
-    rounds::calls::make(image, Request::bare(Call::Layout));
-    plainmap::clear(map, image.sizes.slots, image.sizes.width);
+pub fn empty(image: &mut Image, map: &mut PlainMap) {
+    // What is left is compared after the first call.
+    let _ = rounds::calls::make(image, Request::bare(Call::Layout));
+    *map = PlainMap::new(image.sizes.slots, image.sizes.width);
 }
 
 // Makes a call with its charge, or with a value after so many inserts.
 fn call(
     report: &mut Report<Tally>,
     image: &mut Image,
-    map: &mut Lists,
+    map: &mut PlainMap,
     planned: Planned,
 ) -> io::Result<()> {
     let number = if planned.call == Call::SetCharge {
@@ -82,7 +83,7 @@ fn call(
 pub fn numbered(
     report: &mut Report<Tally>,
     image: &mut Image,
-    map: &mut Lists,
+    map: &mut PlainMap,
     planned: Planned,
     number: usize,
 ) -> io::Result<()> {
@@ -93,12 +94,12 @@ pub fn numbered(
         number,
     };
     let round = as_named(rounds::made(image, map, request), planned.refusal);
-    report.count(planned.call, label.as_slice(), round, plainmap::held(map))
+    report.count(planned.call, label.as_slice(), round, map.held())
 }
 
 // A round of a call that was to have a refusal's number: where it has another, that is its fault.
 pub fn as_named(round: Round, refusal: usize) -> Round {
-    if refusal == ANY_REFUSAL || refusal == packing::refusal(round.said) {
+    if refusal == ANY_REFUSAL || refusal == round.refusal().map_or(0, Refusal::number) {
         return round;
     }
     Round {
