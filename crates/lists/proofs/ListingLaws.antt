@@ -10,15 +10,14 @@ use native.Mathlib.Nat.{zero-add}
 use native.Mathlib.Omega.{arith}
 use lib.ListN.{length, drop}
 use borrow.Author.Tests.{lt-ltb, le-ltb}
+use Rattle.std.specs.Prelude.{Result, Ok, Err}
 use Rattle.types.specs.declared.Limits.{Limits}
 use Rattle.types.specs.declared.Refusal.{Refusal}
 use Rattle.types.specs.Answers.{Answer, listed, refused, refusal_number}
 use Rattle.tables.specs.Words.{labels_held}
 use Rattle.tables.specs.Sound.{sound}
 use Rattle.tables.specs.Outcomes.{pass, of_list, listing_outcome}
-use Rattle.lengths.specs.declared.Early.{Early}
-use Rattle.lengths.specs.declared.Early.TheVariants.{Pass, Refused}
-use Rattle.lengths.specs.Early.{early_says}
+use Rattle.lengths.specs.Tests.{test_says}
 use Rattle.words.specs.Limits.{LimitsFit, SizesFit}
 use Rattle.words.specs.Filled.{Filled}
 use Rattle.words.proofs.Fills.{sets_from_start}
@@ -30,21 +29,21 @@ use Rattle.lists.specs.Listed.{slots_listed, listing_ready, ListReady}
 use Rattle.lists.proofs.SoundLists.{slots_of_sound}
 
 -- what the tests of a whole table decide of the listing
-module _ (limits : Limits) (table store : List ℕ) (early : Early)
-    (says : early_says early ≡ of_whole limits table store pass) where
+module _ (limits : Limits) (table store : List ℕ) (tested : Result Unit Refusal)
+    (says : test_says tested ≡ of_whole limits table store pass) where
   module _ (list : List ℕ) where
-    pub listing_refused : (r : Refusal) → early ≡ Refused r
+    pub listing_refused : (r : Refusal) → tested ≡ Err r
         → Lists (listing_outcome limits table store list) (refused (refusal_number r)) list
     unfolding listing_outcome
     listing_refused r e =
         let decides = whole_decides limits table store in
-        rw (lines_refused (of_whole limits table store) decides early says r e (of_list table list pass))
+        rw (lines_refused (of_whole limits table store) decides tested says r e (of_list table list pass))
         (record { answer = refl; list = refl })
 
-  module _ (fit : LimitsFit limits) (e : early ≡ Pass) where
+  module _ (fit : LimitsFit limits) (e : tested ≡ Ok tt) where
     -- the table and the store have their sizes, and are sound
     passed : SizesFit limits table store × (sound limits table store ≡ true)
-    passed = whole_passed limits table store early says fit e
+    passed = whole_passed limits table store tested says fit e
 
     pub list_ready : ListReady limits table
     list_ready =
@@ -56,7 +55,7 @@ module _ (limits : Limits) (table store : List ℕ) (early : Early)
     listing_passed list after a lists =
         let decides = whole_decides limits table store in
         rw (
-          lines_passed (of_whole limits table store) decides early says e (of_list table list pass),
+          lines_passed (of_whole limits table store) decides tested says e (of_list table list pass),
           ← (slots_of_sound limits table store passed.1).slots,
         )
         lists

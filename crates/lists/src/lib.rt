@@ -8,8 +8,7 @@ ghost use Rattle.words.specs.Filled.{Filled};
 ghost use Rattle.lists.specs.Given.{Lists};
 ghost use Rattle.lists.specs.Listed.{slots_from, listing_ready, ListFits, ListReady};
 
-use lengths::Early;
-use types::{Limits, ListAnswer, Refusal};
+use types::{Limits, Refusal};
 
 // Writes the slots at a link, at most `remaining` nodes deep, from a position of the list on, and gives the next one.
 pub fn list_from(
@@ -46,28 +45,30 @@ pub fn list_from(
 }
 
 // Lists the slots of a table that has as many as its labels held; refused by 10 where the list is shorter.
-fn list_ready(limits: Limits, table: &[u16], list: &mut [u16]) -> ListAnswer
+fn list_ready(limits: Limits, table: &[u16], list: &mut [u16]) -> Result<usize, Refusal>
     requires { ListReady limits table.now }
     ensures { Lists (listing_ready limits table.now list.old) (list_says result) list.new }
 {
     if list.len() < table[1] as usize {
-        return ListAnswer::Refused(Refusal::ShortList);
+        return Err(Refusal::ShortList);
     }
     let root = table[0] as usize;
     let count = list_from(limits, table, list, 0, root, limits.depth);
-    ListAnswer::Listed(count)
+    Ok(count)
 }
 
 // Lists the slots of a sound table; refused by 1, 2, 6, or 10 where the list is shorter than the labels held.
 // Later words stay, and all words where it is refused.
-pub fn listing_within(limits: Limits, table: &[u16], store: &[u8], list: &mut [u16]) -> ListAnswer
+pub fn listing_within(
+    limits: Limits,
+    table: &[u16],
+    store: &[u8],
+    list: &mut [u16],
+) -> Result<usize, Refusal>
     requires { LimitsFit limits }
     ensures { Lists (listing_outcome limits table.now store.now list.old)
         (list_says result) list.new }
 {
-    let early = verdicts::whole_table(limits, table, store);
-    match early {
-        Early::Refused(refusal) => ListAnswer::Refused(refusal),
-        Early::Pass => list_ready(limits, table, list),
-    }
+    verdicts::whole_table(limits, table, store)?;
+    list_ready(limits, table, list)
 }

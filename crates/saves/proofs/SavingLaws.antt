@@ -8,14 +8,13 @@ use native.Mathlib.Nat.{zero-add}
 use native.Mathlib.Omega.{arith}
 use lib.ListN.{length}
 use borrow.Author.Tests.{lt-ltb, le-ltb}
+use Rattle.std.specs.Prelude.{Result, Ok, Err}
 use Rattle.types.specs.declared.Limits.{Limits}
 use Rattle.types.specs.declared.Refusal.{Refusal}
 use Rattle.types.specs.Answers.{refusal_number}
 use Rattle.types.specs.SaveReplies.{SaveReply, saved, refused}
 use Rattle.tables.specs.Outcomes.{pass}
-use Rattle.lengths.specs.declared.Early.{Early}
-use Rattle.lengths.specs.declared.Early.TheVariants.{Pass, Refused}
-use Rattle.lengths.specs.Early.{early_says}
+use Rattle.lengths.specs.Tests.{test_says}
 use Rattle.words.specs.Limits.{LimitsFit}
 use Rattle.words.specs.Filled.{Filled}
 use Rattle.words.proofs.Fills.{sets_from_start}
@@ -27,19 +26,19 @@ use Rattle.saves.specs.Saved.{file_from, saving_ready}
 use Rattle.saves.proofs.SoundSaves.{file_of_sound}
 
 -- what the tests of a whole table decide of a save
-module _ (limits : Limits) (table store : List ℕ) (early : Early)
-    (says : early_says early ≡ of_whole limits table store pass) where
+module _ (limits : Limits) (table store : List ℕ) (tested : Result Unit Refusal)
+    (says : test_says tested ≡ of_whole limits table store pass) where
   module _ (output : List ℕ) where
-    pub saving_refused : (r : Refusal) → early ≡ Refused r
+    pub saving_refused : (r : Refusal) → tested ≡ Err r
         → Saves (save_outcome limits table store output) (refused (refusal_number r)) output
     unfolding save_outcome
     saving_refused r e =
         let file = file_in limits (record { table = table; store = store }) in
         let decides = whole_decides limits table store in
-        rw (lines_refused (of_whole limits table store) decides early says r e (of_output file output pass))
+        rw (lines_refused (of_whole limits table store) decides tested says r e (of_output file output pass))
         (record { answer = refl; output = refl })
 
-  module _ (fit : LimitsFit limits) (e : early ≡ Pass) where
+  module _ (fit : LimitsFit limits) (e : tested ≡ Ok tt) where
     pub saving_passed : (output after : List ℕ) (a : SaveReply) → Saves (saving_ready limits table store output) a after
         → Saves (save_outcome limits table store output) a after
     unfolding save_outcome
@@ -47,8 +46,8 @@ module _ (limits : Limits) (table store : List ℕ) (early : Early)
         let file = file_in limits (record { table = table; store = store }) in
         let decides = whole_decides limits table store in
         rw (
-          lines_passed (of_whole limits table store) decides early says e (of_output file output pass),
-          ← (file_of_sound limits table store (whole_passed limits table store early says fit e).1),
+          lines_passed (of_whole limits table store) decides tested says e (of_output file output pass),
+          ← (file_of_sound limits table store (whole_passed limits table store tested says fit e).1),
         )
         saves
 

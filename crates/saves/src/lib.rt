@@ -11,8 +11,7 @@ ghost use Rattle.files.specs.Saves.{save_outcome, Saves};
 ghost use Rattle.saves.specs.Saved.{entry_in_slot, entries_from, file_from, saving_ready};
 ghost use Rattle.saves.specs.Saved.{CountFits, WriteFits};
 
-use lengths::Early;
-use types::{Limits, Refusal, Row, SaveAnswer};
+use types::{Limits, Refusal, Row};
 
 // How many bytes the entry of a slot takes, by its row.
 fn slot_length(limits: Limits, store: &[u8], slot: u16, row: Row) -> usize
@@ -123,13 +122,18 @@ fn file_length(limits: Limits, table: &[u16], store: &[u8]) -> usize
 }
 
 // Saves a table that has as many nodes as labels held; refused by 17 where the output is shorter than the file.
-fn save_ready(limits: Limits, table: &[u16], store: &[u8], output: &mut [u8]) -> SaveAnswer
+fn save_ready(
+    limits: Limits,
+    table: &[u16],
+    store: &[u8],
+    output: &mut [u8],
+) -> Result<usize, Refusal>
     requires { ListReady limits table.now }
     ensures { Saves (saving_ready limits table.now store.now output.old)
         (save_says result) output.new }
 {
     if output.len() < file_length(limits, table, store) {
-        return SaveAnswer::Refused(Refusal::ShortOutput);
+        return Err(Refusal::ShortOutput);
     }
     let start = entries::groups::put(output, 0, table[1] as usize);
     let end = write_from(
@@ -141,19 +145,21 @@ fn save_ready(limits: Limits, table: &[u16], store: &[u8], output: &mut [u8]) ->
         table[0] as usize,
         limits.depth,
     );
-    SaveAnswer::Saved(end)
+    Ok(end)
 }
 
 // Saves the labels of a sound table; refused by 1, 2, 6, or 17 where the output is shorter than the file.
 // Later bytes stay, and all bytes where it is refused.
-pub fn save_within(limits: Limits, table: &[u16], store: &[u8], output: &mut [u8]) -> SaveAnswer
+pub fn save_within(
+    limits: Limits,
+    table: &[u16],
+    store: &[u8],
+    output: &mut [u8],
+) -> Result<usize, Refusal>
     requires { LimitsFit limits }
     ensures { Saves (save_outcome limits table.now store.now output.old)
         (save_says result) output.new }
 {
-    let early = verdicts::whole_table(limits, table, store);
-    match early {
-        Early::Refused(refusal) => SaveAnswer::Refused(refusal),
-        Early::Pass => save_ready(limits, table, store, output),
-    }
+    verdicts::whole_table(limits, table, store)?;
+    save_ready(limits, table, store, output)
 }
