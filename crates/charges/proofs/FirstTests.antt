@@ -8,6 +8,7 @@ use mathlib.Core.Bool.{Bool, true, false, not, ◌&&◌}
 use mathlib.Core.Path.{◌≡◌, refl, sym, ap, ◌∙◌}
 use Prim.Native.Nat.{ℕ}
 use borrow.Author.Tests.{not-false}
+use Rattle.std.specs.Prelude.{Result, Ok, Err}
 use Rattle.types.specs.declared.Limits.{Limits}
 use Rattle.types.specs.declared.Refusal.{Refusal}
 use Rattle.types.specs.Answers.{refused, refusal_number}
@@ -18,9 +19,7 @@ use Rattle.tables.specs.Sound.{sound}
 use Rattle.tables.specs.Outcomes.{Verdict, pass, line, of_memory, of_label, of_charge, of_table, update_outcome}
 use Rattle.tables.specs.Outcomes.{charge_outcome}
 use Rattle.tables.specs.Given.{Gives}
-use Rattle.lengths.specs.declared.Early.{Early}
-use Rattle.lengths.specs.declared.Early.TheVariants.{Pass, Refused}
-use Rattle.lengths.specs.Early.{early_says}
+use Rattle.lengths.specs.Tests.{test_says}
 use Rattle.lengths.proofs.FirstLines.{line_passed, sizes_passed, label_passed, lengths_refused, lengths_passed}
 use Rattle.endings.specs.Ready.{EditsFit, Ready}
 use Rattle.endings.proofs.FirstTests.{refused_by}
@@ -40,17 +39,17 @@ untested true sound below = refl
 untested false sound below = refl
 
 module _ (limits : Limits) (table store : List ℕ) (x : Label) (charge : ℕ) where
-  module _ (early : Early) (says : early_says early ≡ of_memory limits table store (of_label limits x pass)) where
+  module _ (early : Result Unit Refusal) (says : test_says early ≡ of_memory limits table store (of_label limits x pass)) where
     -- A refusal by a length is the call's.
-    pub early_unread : (r : Refusal) → early ≡ Refused r → early_says early ≡ charge_verdict limits table store x charge
+    pub early_unread : (r : Refusal) → early ≡ Err r → test_says early ≡ charge_verdict limits table store x charge
     unfolding charge_verdict
-    early_unread r e = ap early_says e ∙ sym (lengths_refused limits table store x early says r e _)
+    early_unread r e = ap test_says e ∙ sym (lengths_refused limits table store x early says r e _)
 
     -- Past the lengths the charge decides, and then the whole table.
-    pub early_read : early ≡ Pass → (right so : Bool) (last : Early) → right ≡ is_charge charge
+    pub early_read : early ≡ Ok tt → (right so : Bool) (last : Result Unit Refusal) → right ≡ is_charge charge
         → so ≡ (right && sound limits table store)
-        → early_says last ≡ line (not right) 24 (line (not so) 6 pass)
-        → early_says last ≡ charge_verdict limits table store x charge
+        → test_says last ≡ line (not right) 24 (line (not so) 6 pass)
+        → test_says last ≡ charge_verdict limits table store x charge
     unfolding charge_verdict
     early_read passed right so last is_right is_sound later =
         later ∙ rw is_sound (untested right (sound limits table store) pass)
@@ -58,20 +57,20 @@ module _ (limits : Limits) (table store : List ℕ) (x : Label) (charge : ℕ) w
         ∙ sym (lengths_passed limits table store x early says passed _)
 
   -- A refused call gives the number, and leaves all lent memory.
-  pub refused_charge : (early : Early) (r : Refusal) → early_says early ≡ charge_verdict limits table store x charge
-      → early ≡ Refused r → Gives (charge_outcome limits table store x charge) (refused (refusal_number r)) table store
+  pub refused_charge : (early : Result Unit Refusal) (r : Refusal) → test_says early ≡ charge_verdict limits table store x charge
+      → early ≡ Err r → Gives (charge_outcome limits table store x charge) (refused (refusal_number r)) table store
   unfolding charge_outcome update_outcome charge_verdict
   refused_charge early r first refuses =
-      refused_by limits table store _ _ (refusal_number r) (sym (ap early_says refuses) ∙ first)
+      refused_by limits table store _ _ (refusal_number r) (sym (ap test_says refuses) ∙ first)
 
   -- Past the tests the memory is sound, the label fits, and the charge is one.
-  pub charge_ready : EditsFit limits → (early : Early) → early_says early ≡ charge_verdict limits table store x charge
-      → early ≡ Pass → Ready limits table store x × (is_charge charge ≡ true)
+  pub charge_ready : EditsFit limits → (early : Result Unit Refusal) → test_says early ≡ charge_verdict limits table store x charge
+      → early ≡ Ok tt → Ready limits table store x × (is_charge charge ≡ true)
   unfolding charge_verdict
   charge_ready fits early says e =
       let whole = of_table limits table store pass in
       let lines = of_charge (plain.set_charge x charge) whole in
-      let sizes = sizes_passed limits table store (of_label limits x lines) fits.fit (sym (ap early_says e) ∙ says) in
+      let sizes = sizes_passed limits table store (of_label limits x lines) fits.fit (sym (ap test_says e) ∙ says) in
       let label = label_passed limits x lines sizes.1 in
       let right = line_passed (not (is_charge charge)) 24 whole label.1 in
       let so = (line_passed (not (sound limits table store)) 6 pass right.1).0 in (

@@ -1,2 +1,1 @@
 pub mod WholeTests
-pub mod UpdateTests

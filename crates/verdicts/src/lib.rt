@@ -6,47 +6,38 @@ pub mod labelled;
 
 ghost use Rattle.std.specs.Prelude.{◌≡◌};
 ghost use Rattle.types.specs.Answers.{done_says};
-ghost use Rattle.tables.specs.Sound.{sound};
-ghost use Rattle.tables.specs.Outcomes.{pass, check_outcome};
-ghost use Rattle.lengths.specs.Early.{early_says};
+ghost use Rattle.tables.specs.Outcomes.{pass, of_table, check_outcome};
 ghost use Rattle.words.specs.Limits.{LimitsFit, SizesFit};
+ghost use Rattle.lengths.specs.Tests.{test_says};
 ghost use Rattle.verdicts.specs.Verdicts.{of_whole};
 
-use lengths::Early;
-use types::{DoneAnswer, Limits, Refusal};
+use types::{Limits, Refusal};
 
-// Whether a table and its store are sound.
-pub fn is_sound(limits: Limits, table: &[u16], store: &[u8]) -> bool
+// Refuses a table and its store by 6 where they are not sound.
+pub fn of_table(limits: Limits, table: &[u16], store: &[u8]) -> Result<(), Refusal>
     requires { SizesFit limits table.now store.now }
-    ensures { result ≡ sound limits table.now store.now }
+    ensures { test_says result ≡ of_table limits table.now store.now pass }
 {
-    checks::sound_within(limits, table, store)
+    if checks::sound_within(limits, table, store) {
+        Ok(())
+    } else {
+        Err(Refusal::NotSound)
+    }
 }
 
 // The refusals of a whole table: by 1 and 2, or by 6 where it is not sound.
-pub fn whole_table(limits: Limits, table: &[u16], store: &[u8]) -> Early
+pub fn whole_table(limits: Limits, table: &[u16], store: &[u8]) -> Result<(), Refusal>
     requires { LimitsFit limits }
-    ensures { early_says result ≡ of_whole limits table.now store.now pass }
+    ensures { test_says result ≡ of_whole limits table.now store.now pass }
 {
-    let early = lengths::of_memory(limits, table, store);
-    let Early::Pass = early else {
-        return early;
-    };
-    if is_sound(limits, table, store) {
-        Early::Pass
-    } else {
-        Early::Refused(Refusal::NotSound)
-    }
+    lengths::of_memory(limits, table, store)?;
+    of_table(limits, table, store)
 }
 
 // The check: done where the table is sound, else refused by 1, 2 or 6.
-pub fn check_within(limits: Limits, table: &[u16], store: &[u8]) -> DoneAnswer
+pub fn check_within(limits: Limits, table: &[u16], store: &[u8]) -> Result<(), Refusal>
     requires { LimitsFit limits }
     ensures { done_says result ≡ check_outcome limits table.now store.now }
 {
-    let early = whole_table(limits, table, store);
-    match early {
-        Early::Refused(refusal) => DoneAnswer::Refused(refusal),
-        Early::Pass => DoneAnswer::Done,
-    }
+    whole_table(limits, table, store)
 }

@@ -12,6 +12,7 @@ use lib.Dec.{eqb, ltb}
 use lib.ListN.{length}
 use borrow.Author.Tests.{eqb-false, ltb-false}
 use denote.Ref.{Bor}
+use Rattle.std.specs.Prelude.{Result, Ok, Err}
 use Rattle.types.specs.declared.Limits.{Limits}
 use Rattle.types.specs.declared.DoneAnswer.{DoneAnswer}
 use Rattle.types.specs.declared.DoneAnswer.TheVariants as answers
@@ -25,9 +26,7 @@ use Rattle.tables.specs.Outcomes.{pass, answer_by, of_memory, of_slot, view_verd
 use Rattle.words.specs.Limits.{LimitsFit}
 use Rattle.words.specs.Rows.{HasRow}
 use Rattle.words.specs.Parts.{StartFits, LabelInside, Shows}
-use Rattle.lengths.specs.declared.Early.{Early}
-use Rattle.lengths.specs.declared.Early.TheVariants.{Pass, Refused}
-use Rattle.lengths.specs.Early.{early_says}
+use Rattle.lengths.specs.Tests.{test_says}
 use Rattle.views.specs.Parts.{view_start, Views}
 use Rattle.tables.proofs.Offsets.{part_within}
 use Rattle.words.proofs.PartLaws.{start_small}
@@ -128,17 +127,17 @@ module _ (limits : Limits) (table : List ℕ) (k : ℕ) (row : Row)
   slot_fine e f = rw (← is_row) (search branches)
 
 -- the first call's answer, by the lent lengths
-module _ (limits : Limits) (table store : List ℕ) (k : ℕ) (early : Early)
-    (says : early_says early ≡ of_memory limits table store pass) where
-  pub view_refused : (r : Refusal) → early ≡ Refused r → refused (refusal_number r) ≡ view_outcome limits table store k
+module _ (limits : Limits) (table store : List ℕ) (k : ℕ) (early : Result Unit Refusal)
+    (says : test_says early ≡ of_memory limits table store pass) where
+  pub view_refused : (r : Refusal) → early ≡ Err r → refused (refusal_number r) ≡ view_outcome limits table store k
   unfolding view_outcome
   view_refused r e = rw (memory_refused limits table store early says r e (of_slot limits table k pass))
 
-  pub view_checked : (a : Answer) → early ≡ Pass → a ≡ answer_by (of_slot limits table k pass) done
+  pub view_checked : (a : Answer) → early ≡ Ok tt → a ≡ answer_by (of_slot limits table k pass) done
       → a ≡ view_outcome limits table store k
   unfolding view_outcome
   view_checked a e so = rw (memory_passed limits table store early says e (of_slot limits table k pass)) so
 
   -- past them the table has its length
-  pub view_words : LimitsFit limits → early ≡ Pass → length table ≡ table_length limits
+  pub view_words : LimitsFit limits → early ≡ Ok tt → length table ≡ table_length limits
   view_words fit e = (sizes_fit limits table store early says fit e).words
