@@ -1,12 +1,10 @@
 -- The label view's answer and its part.
--- `slot_empty`, `slot_long`, `slot_fine`: what the slot's row decides.
--- `view_refused`, `view_checked`, `view_words`: the first call's answer, by the lent lengths.
 -- `view_has_row`, `view_start_lem`, `view_label`: where the first call is done, the slot has a row, its part starts at a
 -- machine word, and its label lies in the store.
 -- `view_shown`, `view_hidden`: what the second call returns where the first is done, and where it refuses.
 use mathlib.Core.List.{List, []}
 use mathlib.Core.Path.{◌≡◌, refl, sym, ap, ◌∙◌}
-use Prim.Native.Nat.{ℕ, ◌+◌, ◌≤◌, ◌<◌}
+use Prim.Native.Nat.{ℕ, ◌+◌, ◌≤◌}
 use native.Mathlib.Omega.{arith}
 use lib.Dec.{eqb, ltb}
 use lib.ListN.{length}
@@ -14,25 +12,19 @@ use borrow.Author.Tests.{eqb-false, ltb-false}
 use denote.Ref.{Bor}
 use Rattle.std.specs.Prelude.{Result, Ok, Err}
 use Rattle.types.specs.declared.Limits.{Limits}
-use Rattle.types.specs.declared.DoneAnswer.{DoneAnswer}
-use Rattle.types.specs.declared.DoneAnswer.TheVariants as answers
-use Rattle.types.specs.declared.DoneAnswer.TheVariants.{Done}
 use Rattle.types.specs.declared.Refusal.{Refusal}
-use Rattle.types.specs.declared.Row.{Row}
 use Rattle.types.specs.Sizes.{table_length}
-use Rattle.types.specs.Answers.{Answer, done, refused, refusal_number, done_says}
+use Rattle.types.specs.Answers.{done, refused, refusal_number, done_says}
 use Rattle.tables.specs.Words.{row_at, label_at, part_start}
-use Rattle.tables.specs.Outcomes.{pass, answer_by, of_memory, of_slot, view_verdict, view_outcome, view_part}
+use Rattle.tables.specs.Outcomes.{pass, of_slot, view_verdict, view_outcome, view_part}
 use Rattle.words.specs.Limits.{LimitsFit}
 use Rattle.words.specs.Rows.{HasRow}
 use Rattle.words.specs.Parts.{StartFits, LabelInside, Shows}
-use Rattle.lengths.specs.Tests.{test_says}
 use Rattle.views.specs.Parts.{view_start, Views}
 use Rattle.tables.proofs.Offsets.{part_within}
 use Rattle.words.proofs.PartLaws.{start_small}
 use Rattle.trees.proofs.Views.{either_false}
-use Rattle.lengths.proofs.FirstLines.{line_passed, memory_refused, memory_passed, sizes_passed, sizes_fit}
-use Rattle.labels.proofs.Branches.{branches}
+use Rattle.lengths.proofs.FirstLines.{line_passed, sizes_passed}
 use Rattle.views.proofs.Verdicts.{done_passed, part_passed, part_refused}
 
 -- where its line passes, the slot is one of the table's and its length one of a label's
@@ -76,8 +68,8 @@ module _ (limits : Limits) (table store : List ℕ) (k : ℕ) where
   hidden number e = part_refused _ _ (view_verdict limits table store k) number e
 
   -- what the second call knows from the first call's answer
-  module _ (fit : LimitsFit limits) (answer : DoneAnswer) (says : done_says answer ≡ view_outcome limits table store k)
-      (is_done : answer ≡ Done) where
+  module _ (fit : LimitsFit limits) (answer : Result Unit Refusal) (says : done_says answer ≡ view_outcome limits table store k)
+      (is_done : answer ≡ Ok tt) where
     fits : ViewFits limits table store k
     fits = view_fits fit (cc)
 
@@ -95,9 +87,9 @@ module _ (limits : Limits) (table store : List ℕ) (k : ℕ) where
     view_label = let shown = fits in record { low = shown.low; inside = shown.inside }
 
 -- what the second call returns, by the first call's answer
-module _ (limits : Limits) (table : List ℕ) (store : Bor (List ℕ)) (k : ℕ) (answer : DoneAnswer)
+module _ (limits : Limits) (table : List ℕ) (store : Bor (List ℕ)) (k : ℕ) (answer : Result Unit Refusal)
     (says : done_says answer ≡ view_outcome limits table store.now k) where
-  pub view_shown : (r : Bor (List ℕ)) → answer ≡ Done → Shows limits store k (row_at table k).len r
+  pub view_shown : (r : Bor (List ℕ)) → answer ≡ Ok tt → Shows limits store k (row_at table k).len r
       → Views limits table store k r
   view_shown r e shows =
       let both = shown limits table store.now k (cc) in
@@ -107,37 +99,8 @@ module _ (limits : Limits) (table : List ℕ) (store : Bor (List ℕ)) (k : ℕ)
         start = shows.start ∙ ap (λ (n : ℕ). store.ref_ptr.1 + n) (sym both.1);
       }
 
-  pub view_hidden : (reason : Refusal) → answer ≡ answers.Refused reason
+  pub view_hidden : (reason : Refusal) → answer ≡ Err reason
       → Views limits table store k (record { ref_ptr = (store.ref_ptr.0, 0 + store.ref_ptr.1); now = [] })
   view_hidden reason e =
       let both = hidden limits table store.now k (refusal_number reason) (cc) in
       record { bytes = sym both.0; block = refl; start = omega arith }
-
--- what the row of a slot decides
-module _ (limits : Limits) (table : List ℕ) (k : ℕ) (row : Row)
-    (some : k ≡ 0 → ⊥) (high : k ≤ limits.slots) (is_row : row ≡ row_at table k) where
-  pub slot_empty : row.len ≡ 0 → refused 11 ≡ answer_by (of_slot limits table k pass) done
-  slot_empty e = rw (← is_row) (search branches)
-
-  pub slot_long : (row.len ≡ 0 → ⊥) → limits.width < row.len
-      → refused 11 ≡ answer_by (of_slot limits table k pass) done
-  slot_long e f = rw (← is_row) (search branches)
-
-  pub slot_fine : (row.len ≡ 0 → ⊥) → row.len ≤ limits.width → done ≡ answer_by (of_slot limits table k pass) done
-  slot_fine e f = rw (← is_row) (search branches)
-
--- the first call's answer, by the lent lengths
-module _ (limits : Limits) (table store : List ℕ) (k : ℕ) (early : Result Unit Refusal)
-    (says : test_says early ≡ of_memory limits table store pass) where
-  pub view_refused : (r : Refusal) → early ≡ Err r → refused (refusal_number r) ≡ view_outcome limits table store k
-  unfolding view_outcome
-  view_refused r e = rw (memory_refused limits table store early says r e (of_slot limits table k pass))
-
-  pub view_checked : (a : Answer) → early ≡ Ok tt → a ≡ answer_by (of_slot limits table k pass) done
-      → a ≡ view_outcome limits table store k
-  unfolding view_outcome
-  view_checked a e so = rw (memory_passed limits table store early says e (of_slot limits table k pass)) so
-
-  -- past them the table has its length
-  pub view_words : LimitsFit limits → early ≡ Ok tt → length table ≡ table_length limits
-  view_words fit e = (sizes_fit limits table store early says fit e).words

@@ -1,8 +1,11 @@
-use Rattle.views.proofs.ViewLaws.{view_refused, view_checked}
+use Rattle.std.proofs.Common.{rules}
+use Rattle.tables.specs.Outcomes.{view_outcome}
 use Rattle.views.proofs.view_check_within.Goals as goal
 
-pub returns-in-Refused : goal.returns-in-Refused
-returns-in-Refused c = search view_refused
+pub returns-in_err-of_memory : goal.returns-in_err-of_memory
+unfolding view_outcome
+returns-in_err-of_memory c = search rules
 
-pub returns-in-Pass : goal.returns-in-Pass
-returns-in-Pass c = search view_checked
+pub returns : goal.returns
+unfolding view_outcome
+returns c = search rules
