@@ -1,11 +1,9 @@
 -- The tests before a charge is set.
--- `not_tested`, `tested`: where the charge is wrong, soundness is not tested.
--- `early_unread`, `early_read`: what the lengths decide, and what is left to those lines past them.
 -- `refused_charge`: a refused call. `charge_ready`: past the tests the memory is sound, the label fits, the charge is
 -- one.
 use mathlib.Core.List.{List}
-use mathlib.Core.Bool.{Bool, true, false, not, ◌&&◌}
-use mathlib.Core.Path.{◌≡◌, refl, sym, ap, ◌∙◌}
+use mathlib.Core.Bool.{true, not}
+use mathlib.Core.Path.{◌≡◌, sym, ap, ◌∙◌}
 use Prim.Native.Nat.{ℕ}
 use borrow.Author.Tests.{not-false}
 use Rattle.std.specs.Prelude.{Result, Ok, Err}
@@ -16,46 +14,16 @@ use Rattle.labels.specs.Labels.{Label}
 use Rattle.trees.specs.Charges.{is_charge}
 use Rattle.trees.specs.Plain as plain
 use Rattle.tables.specs.Sound.{sound}
-use Rattle.tables.specs.Outcomes.{Verdict, pass, line, of_memory, of_label, of_charge, of_table, update_outcome}
+use Rattle.tables.specs.Outcomes.{pass, of_label, of_charge, of_table, update_outcome}
 use Rattle.tables.specs.Outcomes.{charge_outcome}
 use Rattle.tables.specs.Given.{Gives}
 use Rattle.lengths.specs.Tests.{test_says}
-use Rattle.lengths.proofs.FirstLines.{line_passed, sizes_passed, label_passed, lengths_refused, lengths_passed}
+use Rattle.lengths.proofs.FirstLines.{line_passed, sizes_passed, label_passed}
 use Rattle.endings.specs.Ready.{EditsFit, Ready}
 use Rattle.endings.proofs.FirstTests.{refused_by}
 use Rattle.charges.specs.Verdicts.{charge_verdict}
 
--- Where the charge is wrong, soundness is not tested,
-pub not_tested : (right sound : Bool) → right ≡ false → false ≡ (right && sound)
-not_tested right sound wrong = rw wrong
-
-pub tested : (right sound r : Bool) → right ≡ true → r ≡ sound → r ≡ (right && sound)
-tested right sound r one is = rw one is
-
--- which changes nothing.
-untested : (right sound : Bool) (below : Verdict)
-    → line (not right) 24 (line (not (right && sound)) 6 below) ≡ line (not right) 24 (line (not sound) 6 below)
-untested true sound below = refl
-untested false sound below = refl
-
 module _ (limits : Limits) (table store : List ℕ) (x : Label) (charge : ℕ) where
-  module _ (early : Result Unit Refusal) (says : test_says early ≡ of_memory limits table store (of_label limits x pass)) where
-    -- A refusal by a length is the call's.
-    pub early_unread : (r : Refusal) → early ≡ Err r → test_says early ≡ charge_verdict limits table store x charge
-    unfolding charge_verdict
-    early_unread r e = ap test_says e ∙ sym (lengths_refused limits table store x early says r e _)
-
-    -- Past the lengths the charge decides, and then the whole table.
-    pub early_read : early ≡ Ok tt → (right so : Bool) (last : Result Unit Refusal) → right ≡ is_charge charge
-        → so ≡ (right && sound limits table store)
-        → test_says last ≡ line (not right) 24 (line (not so) 6 pass)
-        → test_says last ≡ charge_verdict limits table store x charge
-    unfolding charge_verdict
-    early_read passed right so last is_right is_sound later =
-        later ∙ rw is_sound (untested right (sound limits table store) pass)
-        ∙ ap (λ (b : Bool). line (not b) 24 (of_table limits table store pass)) is_right
-        ∙ sym (lengths_passed limits table store x early says passed _)
-
   -- A refused call gives the number, and leaves all lent memory.
   pub refused_charge : (early : Result Unit Refusal) (r : Refusal) → test_says early ≡ charge_verdict limits table store x charge
       → early ≡ Err r → Gives (charge_outcome limits table store x charge) (refused (refusal_number r)) table store

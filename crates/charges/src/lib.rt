@@ -2,57 +2,35 @@
 // A refused call has changed nothing.
 #![tactic(auto)]
 
-ghost use Rattle.std.specs.Prelude.{true, not, ◌&&◌, ◌≡◌};
+ghost use Rattle.std.specs.Prelude.{true, ◌≡◌};
 ghost use Rattle.types.specs.Answers.{update_says};
 ghost use Rattle.trees.specs.Charges.{is_charge};
-ghost use Rattle.tables.specs.Sound.{sound};
-ghost use Rattle.tables.specs.Outcomes.{pass, line, charge_outcome};
+ghost use Rattle.tables.specs.Outcomes.{charge_outcome};
 ghost use Rattle.tables.specs.Given.{Gives};
-ghost use Rattle.lengths.specs.Early.{early_says};
-ghost use Rattle.words.specs.Limits.{LimitsFit, SizesFit};
+ghost use Rattle.words.specs.Limits.{LimitsFit};
+ghost use Rattle.lengths.specs.Tests.{test_says};
 ghost use Rattle.endings.specs.Ready.{EditsFit, Ready};
 ghost use Rattle.charges.specs.Verdicts.{charge_verdict};
 
-use lengths::Early;
-use types::{Limits, Refusal, UpdateAnswer};
-
-// The refusals past the label, in the order of the table: 24 for a wrong charge, 6 for a table that is not sound.
-fn refusal_by(right: bool, sound: bool) -> Early
-    ensures { early_says result ≡ line (not right) 24 (line (not sound) 6 pass) }
-{
-    if !right {
-        return Early::Refused(Refusal::WrongCharge);
-    }
-    if !sound {
-        return Early::Refused(Refusal::NotSound);
-    }
-    Early::Pass
-}
-
-// Whether the charge is right and the table is sound: a wrong charge is refused without that test.
-fn sound_if(right: bool, limits: Limits, table: &[u16], store: &[u8]) -> bool
-    requires { SizesFit limits table.now store.now }
-    ensures { result ≡ (right && sound limits table.now store.now) }
-{
-    if right {
-        return verdicts::is_sound(limits, table, store);
-    }
-    false
-}
+use types::{Limits, Refusal, Updated};
 
 // The first refusal, in the order of the table: lent memory, label, charge, whole table.
-fn first_refusal(limits: Limits, table: &[u16], store: &[u8], label: &[u8], charge: u16) -> Early
+fn first_refusal(
+    limits: Limits,
+    table: &[u16],
+    store: &[u8],
+    label: &[u8],
+    charge: u16,
+) -> Result<(), Refusal>
     requires { LimitsFit limits }
-    ensures { early_says result
+    ensures { test_says result
         ≡ charge_verdict limits table.now store.now label.now charge }
 {
-    let early = lengths::with_label(limits, table, store, label);
-    let Early::Pass = early else {
-        return early;
-    };
-    let right = words::charge::is_charge(charge);
-    let sound = sound_if(right, limits, table, store);
-    refusal_by(right, sound)
+    lengths::with_label(limits, table, store, label)?;
+    if !words::charge::is_charge(charge) {
+        return Err(Refusal::WrongCharge);
+    }
+    verdicts::of_table(limits, table, store)
 }
 
 // Sets the charge in a sound table: refused by 8 where the label is not held.
@@ -62,7 +40,7 @@ fn charge_ready(
     store: &[u8],
     label: &[u8],
     charge: u16,
-) -> UpdateAnswer
+) -> Result<Updated, Refusal>
     requires ready { Ready limits table.old store.now label.now }
     requires charge_value { is_charge charge ≡ true }
     ensures { Gives (charge_outcome limits table.old store.now label.now charge)
@@ -70,15 +48,15 @@ fn charge_ready(
 {
     let trace = traces::tracing::trace(limits, table, store, label);
     if trace.found == 0 {
-        return UpdateAnswer::Refused(Refusal::NotHeld);
+        return Err(Refusal::NotHeld);
     }
     words::charge::put_charge(table, trace.found, charge);
     let slot = trace.found as usize;
-    UpdateAnswer::Updated {
+    Ok(Updated {
         slot,
         visits: trace.visits,
         places: trace.places,
-    }
+    })
 }
 
 // Sets the charge of a label. Refused by 1, 2, 3, 4, 24, 6 and 8.
@@ -88,14 +66,11 @@ pub fn charge_within(
     store: &[u8],
     label: &[u8],
     charge: u16,
-) -> UpdateAnswer
+) -> Result<Updated, Refusal>
     requires { EditsFit limits }
     ensures { Gives (charge_outcome limits table.old store.now label.now charge)
         (update_says result) table.new store.now }
 {
-    let early = first_refusal(limits, table, store, label, charge);
-    match early {
-        Early::Refused(refusal) => UpdateAnswer::Refused(refusal),
-        Early::Pass => charge_ready(limits, table, store, label, charge),
-    }
+    first_refusal(limits, table, store, label, charge)?;
+    charge_ready(limits, table, store, label, charge)
 }

@@ -7,26 +7,30 @@ ghost use Rattle.tables.specs.Outcomes.{delete_outcome};
 ghost use Rattle.tables.specs.Given.{Gives};
 ghost use Rattle.endings.specs.Ready.{EditsFit, Ready};
 
-use lengths::Early;
-use types::{Limits, Refusal, UpdateAnswer};
+use types::{Limits, Refusal, Updated};
 
 // Deletes from a sound table: refused by 8 where the label is not held.
-fn delete_ready(limits: Limits, table: &mut [u16], store: &mut [u8], label: &[u8]) -> UpdateAnswer
+fn delete_ready(
+    limits: Limits,
+    table: &mut [u16],
+    store: &mut [u8],
+    label: &[u8],
+) -> Result<Updated, Refusal>
     requires { Ready limits table.old store.old label.now }
     ensures { Gives (delete_outcome limits table.old store.old label.now)
         (update_says result) table.new store.new }
 {
     let trace = traces::tracing::trace(limits, table, store, label);
     if trace.found == 0 {
-        return UpdateAnswer::Refused(Refusal::NotHeld);
+        return Err(Refusal::NotHeld);
     }
     deletions::delete_entry(limits, table, store, trace);
     let slot = trace.found as usize;
-    UpdateAnswer::Updated {
+    Ok(Updated {
         slot,
         visits: trace.visits,
         places: trace.places,
-    }
+    })
 }
 
 // Deletes a label. Refused by 1, 2, 3, 4, 6 and 8.
@@ -35,14 +39,11 @@ pub fn delete_within(
     table: &mut [u16],
     store: &mut [u8],
     label: &[u8],
-) -> UpdateAnswer
+) -> Result<Updated, Refusal>
     requires { EditsFit limits }
     ensures { Gives (delete_outcome limits table.old store.old label.now)
         (update_says result) table.new store.new }
 {
-    let early = verdicts::labelled::first_refusal(limits, table, store, label);
-    match early {
-        Early::Refused(refusal) => UpdateAnswer::Refused(refusal),
-        Early::Pass => delete_ready(limits, table, store, label),
-    }
+    verdicts::labelled::first_refusal(limits, table, store, label)?;
+    delete_ready(limits, table, store, label)
 }
