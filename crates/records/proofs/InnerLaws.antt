@@ -1,20 +1,25 @@
 -- The content of an escaped field, as the grammar derives it with its bytes.
+--     quote_no_inner    what may stand there alone is no quote
 --     inner_joined      two contents after each other are a content
 --     inner_undoubled   it is the bytes, with one of two quotes
 --     inner_few         it has no more bytes than stand there
 --     inner_even        and where it has as many, it is these bytes
 --     inner_read        a field that starts with its bytes is read as it, and then what the rest is read as
-use mathlib.Core.Bool.{Bool, true, false}
+use mathlib.Core.Bool.{Bool, true, false, true≢false}
 use mathlib.Core.List.{List, [], ◌∷◌, ◌++◌}
-use mathlib.Core.Path.{◌≡◌, refl, ap, ◌∙◌}
+use mathlib.Core.Path.{◌≡◌, refl, sym, ap, ◌∙◌}
 use Prim.Native.Nat.{ℕ, ◌≤◌}
 use native.Mathlib.Omega.{arith}
 use lib.Dec.{eqb}
+use borrow.Author.Tests.{ne_eqb}
 use lib.ListN.{length}
 use Rattle.rfc4180.specs.Grammar.{dquote, is_inner, Inner, none, one, two_quotes}
 use Rattle.rfc4180.specs.Records.{FieldRead, no_field, field, with_byte, quoted_field}
-use Rattle.records.specs.Contents.{undoubled}
-use Rattle.records.proofs.ByteLaws.{quote_no_inner}
+use Rattle.records.specs.Undoubled.{undoubled}
+
+-- what may stand there alone is no quote
+pub quote_no_inner : (byte : ℕ) → is_inner byte ≡ true → eqb byte dquote ≡ false
+quote_no_inner byte may = ne_eqb byte 34 (λ is. true≢false (sym (rw is at may)))
 
 -- two contents after each other are a content
 pub inner_joined : {content bytes further more : List ℕ} → Inner content bytes → Inner further more

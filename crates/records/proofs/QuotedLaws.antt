@@ -1,144 +1,125 @@
 -- An escaped field, read byte by byte of its content.
 --     Reading           the bytes so far are a content, of so many bytes
 --     reading_begins, reading_goes_on    so they are at first, and after one byte of it more
---     width_within      that byte stands in the text
---     reading_stops, reading_stops_at_end    what is read where the field stops
---     closed_inside, broken_inside    it lies inside the text
-use mathlib.Core.Bool.{Bool, true, false, cond}
-use mathlib.Core.List.{List, [], ◌∷◌, ◌++◌, append-nil}
-use mathlib.Core.Path.{◌≡◌, refl, sym, ap, ◌∙◌}
-use Prim.Native.Nat.{ℕ, suc, ◌+◌, ◌≤◌}
-use native.Mathlib.Omega.{arith}
-use lib.Dec.{eqb}
-use borrow.Author.Tests.{eqb-true}
-use lib.ListN.{length, drop, length-drop, length-append, drop_of_length-le}
-use lib.Seq.{drop-drop}
-use Rattle.rfc4180.specs.Grammar.{dquote, Inner, none}
+--     reading_closed, reading_unclosed, reading_broken    what is read where the field stops
+--     content_counted   its content has so many bytes
+use Rattle.std.proofs.Common.{◌≡◌, refl, sym, ap, ◌∙◌, Bool, true, false, cond, List, [], ◌∷◌, ◌++◌, ℕ, ◌+◌, ◌-◌, ◌≤◌, ◌<◌}
+use Rattle.std.proofs.Common.{length, get_or, take, drop, eqb, arith, length-append, append_assoc, append-nil, Option, Some, None}
+use Rattle.std.proofs.Math.Seq.{take-append_seam}
+use Rattle.std.proofs.lemmas.List.{take_all}
+use borrow.Author.Tests.{eqb-true, ne_eqb}
+use Rattle.rfc4180.specs.Grammar.{Inner, none}
 use Rattle.rfc4180.specs.Records.{no_field, field, quoted_field}
-use Rattle.records.specs.declared.Field.{Field}
-use Rattle.records.specs.declared.Field.TheVariants.{Broken}
-use Rattle.records.specs.Contents.{starts_with, inner_width, part_of, content_in, field_says, part_field, closed_at}
-use Rattle.records.specs.Contents.{undoubled, ContentInside, FieldInside}
-use Rattle.records.proofs.PlaceLaws.{stands_inside}
-use Rattle.records.proofs.PartLaws.{part_empty, part_longer, part_then_rest, length_of_part, none_inside}
-use Rattle.records.proofs.InnerLaws.{inner_joined, inner_undoubled, inner_even, with_content, inner_read}
-use Rattle.records.proofs.WidthLaws.{WidthView, none_taken, taken, width_view}
+use Rattle.records.specs.Undoubled.{undoubled, content_in}
+use Rattle.records.specs.Contents.{after_inner}
+use Rattle.records.proofs.InnerLaws.{inner_joined, inner_undoubled, inner_even, inner_few, with_content, inner_read}
+use Rattle.records.proofs.StepLaws.{StepView, stopped, stopped_at, taken, step_view}
 
--- the bytes from a start to an end are a content, of so many bytes
-pub record Reading (text : List ℕ) (start end len : ℕ) : Type 0 where
-  pub inside : end ≤ length text
-  pub few : start + len ≤ end
+-- the bytes up to what is left are a content, of so many bytes
+pub record Reading (text rest : List ℕ) (len : ℕ) : Type 0 where
+  pub bytes : List ℕ
   pub content : List ℕ
-  pub inner : Inner content (part_of text start end)
+  pub whole : text ≡ bytes ++ rest
+  pub inner : Inner content bytes
   pub many : length content ≡ len
+  pub few : len + length rest ≤ length text
 
--- that byte stands in the text
-pub width_within : (text : List ℕ) (end width : ℕ) → end ≤ length text → width ≡ inner_width (drop end text)
-    → end + width ≤ length text
-width_within text end width inside same =
-    let short : width ≤ length (drop end text) = rw same (by_view (width_view (drop end text))) in
-    omega (arith, length-drop end text)
-  where
-    by_view : {at : List ℕ} {wide : ℕ} → WidthView at wide → wide ≤ length at
-    by_view (none_taken read) = omega arith
-    by_view (taken byte more inner within) = within
+-- so they are at first
+pub reading_begins : (text : List ℕ) → Reading text text 0
+reading_begins text =
+    record { bytes = []; content = []; whole = refl; inner = none; many = refl; few = omega arith }
 
-module _ (text : List ℕ) (start : ℕ) where
-  -- so they are at first
-  pub reading_begins : start ≤ length text → Reading text start start 0
-  reading_begins inside =
-      record { inside = inside; few = omega arith; content = []; inner = rw (part_empty text start) none; many = refl }
+-- what stops a field: a quote, the text's end, another byte
+at_quote : (rest : List ℕ) → 1 ≤ length rest → get_or rest 0 0 ≡ 34
+    → stopped_at rest ≡ field [] (take (length rest - 1) (drop 1 rest))
+at_quote [] one quote = absurd (omega arith)
+at_quote (byte ∷ more) one quote = rw (quote, take_all (length (byte ∷ more) - 1) more (omega arith))
 
-  module _ (end len : ℕ) (so_far : Reading text start end len) where
-    -- the end is past the start
-    ordered : start ≤ end
-    ordered = omega arith
+at_end : (rest : List ℕ) → length rest < 1 → stopped_at rest ≡ no_field
+at_end [] nothing = refl
+at_end (byte ∷ more) nothing = absurd (omega arith)
 
-    -- one byte of the content more, by what is known of its width
-    one_more : {width : ℕ} → WidthView (drop end text) width → (width ≡ 0 → ⊥)
-        → Reading text start (end + width) (len + 1)
-    one_more (none_taken read) some = absurd (some refl)
-    one_more (taken byte more inner within) some =
-        record {
-          inside = omega (arith, length-drop end text);
-          few = omega arith;
-          content = so_far.content ++ (byte ∷ []);
-          inner = rw (part_longer text start end ordered (suc more)) (inner_joined so_far.inner inner);
-          many = rw (length-append, so_far.many);
-        }
+at_other : (rest : List ℕ) → (get_or rest 0 0 ≡ 34 → ⊥) → stopped_at rest ≡ no_field
+at_other [] other = refl
+at_other (byte ∷ more) other = rw (ne_eqb byte 34 other)
 
-    -- and after one byte of it more
-    pub reading_goes_on : (width : ℕ) → width ≡ inner_width (drop end text) → (width ≡ 0 → ⊥)
-        → Reading text start (end + width) (len + 1)
-    reading_goes_on width same some = one_more (rw same (width_view (drop end text))) some
+module _ (text rest : List ℕ) (len : ℕ) (so_far : Reading text rest len) where
+  -- and after one byte of it more
+  pub reading_goes_on : (more : List ℕ) → Some more ≡ after_inner rest → Reading text more (len + 1)
+  reading_goes_on more is = by_view (step_view rest) is
+    where
+      by_view : {o : Option (List ℕ)} → StepView rest o → Some more ≡ o → Reading text more (len + 1)
+      by_view (stopped read) is = absurd cc
+      by_view (taken byte bytes left inner whole less) is =
+          let same : left ≡ more = cc in
+          let all : text ≡ (so_far.bytes ++ bytes) ++ more =
+          so_far.whole
+          ∙ ap (λ (l : List ℕ). so_far.bytes ++ l) (rw same at whole)
+          ∙ sym (append_assoc so_far.bytes bytes more) in
+          let joined : Inner (so_far.content ++ (byte ∷ [])) (so_far.bytes ++ bytes) = inner_joined so_far.inner inner in
+          let count : length (so_far.content ++ (byte ∷ [])) ≡ len + 1 = rw (length-append, so_far.many) in
+          record {
+            bytes = so_far.bytes ++ bytes;
+            content = so_far.content ++ (byte ∷ []);
+            whole = all;
+            inner = joined;
+            many = count;
+            few = omega (arith, inner_few joined, ap length all, length-append (so_far.bytes ++ bytes) more, count);
+          }
 
-    -- the content is what the part says
-    content_so_far : content_in text (record { start = start; end = end; len = len }) ≡ so_far.content
-    content_so_far = by_length (eqb (start + len) end) refl
-      where
-        as_many : start + len ≡ end → length so_far.content ≡ length (part_of text start end)
-        as_many even = omega (arith, length_of_part text start end ordered so_far.inside, so_far.many)
+  -- the bytes so far are the front of the text
+  front_taken : take (length text - length rest) text ≡ so_far.bytes
+  front_taken =
+      let front : length text - length rest ≡ length so_far.bytes =
+      omega (arith, ap length so_far.whole, length-append so_far.bytes rest) in
+      rw (front, so_far.whole) (take-append_seam so_far.bytes rest)
 
-        by_length : (even : Bool) → eqb (start + len) end ≡ even
-            → cond even (part_of text start end) (undoubled (part_of text start end)) ≡ so_far.content
-        by_length true is = sym (inner_even so_far.inner (as_many (eqb-true (start + len) end is)))
-        by_length false is = inner_undoubled so_far.inner
+  -- the content is what the part says
+  content_so_far : content_in (take (length text - length rest) text) len ≡ so_far.content
+  content_so_far = rw front_taken (by_length (eqb len (length so_far.bytes)) refl)
+    where
+      as_many : len ≡ length so_far.bytes → length so_far.content ≡ length so_far.bytes
+      as_many even = so_far.many ∙ even
 
-    -- what is read from the start on is the content, and what is read of the rest
-    read_so_far : quoted_field (drop start text) ≡ with_content so_far.content (quoted_field (drop end text))
-    read_so_far =
-        ap quoted_field (part_then_rest text start end ordered) ∙ inner_read (drop end text) so_far.inner
+      by_length : (even : Bool) → eqb len (length so_far.bytes) ≡ even
+          → cond even so_far.bytes (undoubled so_far.bytes) ≡ so_far.content
+      by_length true is = sym (inner_even so_far.inner (as_many (eqb-true len (length so_far.bytes) is)))
+      by_length false is = inner_undoubled so_far.inner
 
-    -- it lies inside the text
-    content_inside : ContentInside text (record { start = start; end = end; len = len })
-    content_inside =
-        record {
-          ordered = ordered;
-          inside = so_far.inside;
-          few = so_far.few;
-          many = rw content_so_far so_far.many;
-        }
+  -- its content has so many bytes
+  pub content_counted : length (content_in (take (length text - length rest) text) len) ≡ len
+  content_counted = rw content_so_far so_far.many
 
-    -- what is said at the end is the content, where a quote closes it
-    by_quote : (quote : Bool)
-        → field_says text (cond quote (part_field start end len (end + 1)) Broken)
-        ≡ with_content so_far.content (cond quote (field [] (drop 1 (drop end text))) no_field)
-    by_quote true = rw (content_so_far, append-nil, drop-drop 1 end text)
-    by_quote false = refl
+  -- what is read is the content, and what is read of the rest
+  read_so_far : quoted_field text ≡ with_content so_far.content (quoted_field rest)
+  read_so_far = ap quoted_field so_far.whole ∙ inner_read rest so_far.inner
 
-    -- where no byte of a content stands, a quote ends the field, or it is broken
-    stopped : {width : ℕ} → WidthView (drop end text) width → width ≡ 0
-        → quoted_field (drop end text)
-        ≡ cond (starts_with dquote (drop end text)) (field [] (drop 1 (drop end text))) no_field
-    stopped (none_taken read) nothing = read
-    stopped (taken byte more inner within) nothing = absurd (omega arith)
+  -- where no byte of a content stands, a quote ends the field, or it is broken
+  stops : None ≡ after_inner rest → quoted_field text ≡ with_content so_far.content (stopped_at rest)
+  stops is = read_so_far ∙ ap (with_content so_far.content) (by_view (step_view rest) is)
+    where
+      by_view : {o : Option (List ℕ)} → StepView rest o → None ≡ o → quoted_field rest ≡ stopped_at rest
+      by_view (stopped read) is = read
+      by_view (taken byte bytes left inner whole less) is = absurd cc
 
-    -- what is read where the field stops
-    pub reading_stops : (width : ℕ) (f : Field) → width ≡ inner_width (drop end text) → width ≡ 0
-        → f ≡ closed_at text start end len → field_says text f ≡ quoted_field (drop start text)
-    reading_stops width f same nothing is =
-        ap (field_says text) is
-        ∙ by_quote (starts_with dquote (drop end text))
-        ∙ ap (with_content so_far.content) (sym (stopped (width_view (drop end text)) (sym same ∙ nothing)))
-        ∙ sym read_so_far
+  module _ (none_left : None ≡ after_inner rest) where
+    -- a quote closes the field
+    pub reading_closed : 1 ≤ length rest → get_or rest 0 0 ≡ 34
+        → field (content_in (take (length text - length rest) text) len) (take (length rest - 1) (drop 1 rest))
+        ≡ quoted_field text
+    reading_closed one quote =
+        rw content_so_far
+        (sym (stops none_left
+        ∙ ap (with_content so_far.content) (at_quote rest one quote)
+        ∙ ap (λ (l : List ℕ). field l (take (length rest - 1) (drop 1 rest))) (append-nil so_far.content)))
 
-    -- at the text's end no quote closes it
-    pub reading_stops_at_end : length text ≤ end → no_field ≡ quoted_field (drop start text)
-    unfolding quoted_field
-    reading_stops_at_end past =
-        ap (λ (l : List ℕ). with_content so_far.content (quoted_field l)) (sym (drop_of_length-le text past))
-        ∙ sym read_so_far
+    -- nothing does
+    pub reading_unclosed : length rest < 1 → no_field ≡ quoted_field text
+    reading_unclosed nothing = sym (stops none_left ∙ ap (with_content so_far.content) (at_end rest nothing))
 
-    -- it lies inside the text
-    pub closed_inside : (f : Field) → f ≡ closed_at text start end len → FieldInside text f
-    closed_inside f is = rw is (by_closing (starts_with dquote (drop end text)) refl)
-      where
-        by_closing : (quote : Bool) → starts_with dquote (drop end text) ≡ quote
-            → FieldInside text (cond quote (part_field start end len (end + 1)) Broken)
-        by_closing true here =
-            record { content = content_inside; end = omega (arith, stands_inside text end dquote true (sym here) refl) }
-        by_closing false here = record { content = none_inside text; end = omega arith }
+    -- another byte breaks it
+    pub reading_broken : (get_or rest 0 0 ≡ 34 → ⊥) → no_field ≡ quoted_field text
+    reading_broken other = sym (stops none_left ∙ ap (with_content so_far.content) (at_other rest other))
 
--- what is broken lies inside the text
-pub broken_inside : (text : List ℕ) → FieldInside text Broken
-broken_inside text = record { content = none_inside text; end = omega arith }
+-- what `quoted` needs
+pub ruleset quoted_laws = (reading_begins, reading_goes_on, content_counted, reading_closed, reading_unclosed, reading_broken)

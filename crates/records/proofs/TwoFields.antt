@@ -2,7 +2,7 @@
 --     record_by_label    what is read of a text is its first field, and then a comma, a value and the record's end
 use mathlib.Core.Bool.{Bool, true, false, ◌&&◌, cond}
 use mathlib.Core.List.{List, [], ◌∷◌}
-use mathlib.Core.Option.{none, some}
+use Rattle.std.specs.Prelude.{Some, None}
 use mathlib.Core.Path.{◌≡◌, refl, ◌∙◌}
 use Prim.Native.Nat.{ℕ, zero, suc}
 use lib.Dec.{eqb}
@@ -64,12 +64,12 @@ two_by_line x y byte (next ∷ rest) = by_line (eqb byte cr && eqb next lf)
   where
     by_line : (ended : Bool)
         → as_entry (with_field x (elim ended [ true ↦ fields_of (y ∷ []) rest | false ↦ no_fields ]))
-        ≡ end_then x (value_of y) (cond ended (some rest) none)
+        ≡ end_then x (value_of y) (cond ended (Some rest) None)
     by_line true = refl
     by_line false = refl
 
 -- a comma ends no record
-no_end_at_comma : (byte : ℕ) (rest : List ℕ) → byte ≡ comma → line_end (byte ∷ rest) ≡ none
+no_end_at_comma : (byte : ℕ) (rest : List ℕ) → byte ≡ comma → line_end (byte ∷ rest) ≡ None
 no_end_at_comma byte [] is = refl
 no_end_at_comma byte (next ∷ rest) is = rw is
 

@@ -1,135 +1,85 @@
-// A field of a text, read at a position: escaped between quotes, or not. Its content is a part of the text.
-ghost use Rattle.std.specs.Prelude.{◌≡◌, ◌≤◌, ◌<◌, length, drop};
+// The field at the front of a text: escaped between quotes, or not. Its content is a part of the text.
+ghost use Rattle.std.specs.Prelude.{◌≡◌, Some};
+ghost use Rattle.std.specs.List.{prefix_len};
+ghost use Rattle.std.specs.Option.{option_copied};
 ghost use Rattle.rfc4180.specs.Grammar.{is_textdata, is_inner};
 ghost use Rattle.rfc4180.specs.Records.{bare_field, quoted_field, take_field};
-ghost use Rattle.records.specs.Contents.{starts_with, inner_width, field_says, FieldInside};
-ghost use Rattle.records.specs.Contents.{part_field, closed_at};
+ghost use Rattle.records.specs.Contents.{after_inner, field_says};
 
 use crate::{Content, Field};
 
-// Whether a byte stands at a position.
-pub fn stands(text: &[u8], at: usize, byte: u8) -> bool
-    ensures { result ≡ starts_with byte (drop at text.now) }
+// The field at the front of a text, if it keeps to the grammar.
+#[tactic(auto, using(crate::proofs::FieldLaws::field_laws))]
+pub fn take(text: &[u8]) -> Option<Field<'_>>
+    ensures { field_says result ≡ take_field text.now }
 {
-    if text.len() <= at {
-        return false;
+    match text {
+        [b'"', inner @ ..] => quoted(inner),
+        _ => Some(bare(text)),
     }
-    text[at] == byte
 }
 
-// The field at a position.
-pub fn take(text: &[u8], at: usize) -> Field
-    requires { at ≤ length text.now }
-    ensures result_value { field_says text.now result ≡ take_field (drop at text.now) }
-    ensures field_inside { FieldInside text.now result }
+// A field that is not escaped.
+#[tactic(auto, using(crate::proofs::BareLaws::bare_laws))]
+fn bare(text: &[u8]) -> Field<'_>
+    ensures { field_says (Some result) ≡ bare_field text.now }
 {
-    if stands(text, at, 34) {
-        return quoted(text, at + 1);
-    }
-    bare(text, at)
+    let len = textdata_len(text);
+    let (part, rest) = text.split_at(len);
+    let content = Content { part, len };
+    Field { content, rest }
 }
 
-// A field that is not escaped, from its first byte on.
-fn bare(text: &[u8], start: usize) -> Field
-    requires { start ≤ length text.now }
-    ensures result_value { field_says text.now result ≡ bare_field (drop start text.now) }
-    ensures field_inside { FieldInside text.now result }
+// How many bytes at the front of a text are TEXTDATA.
+fn textdata_len(text: &[u8]) -> usize
+    ensures { result ≡ prefix_len is_textdata text.now }
 {
-    let mut end = start;
-    while end < text.len() {
-        if !is_textdata(text[end]) {
-            return part(start, end, end - start, end);
-        }
-        end += 1;
-    }
-    part(start, end, end - start, end)
+    text.iter().take_while(|byte| is_textdata(**byte)).count()
 }
 
 // An escaped field, from the byte after its first quote on.
-fn quoted(text: &[u8], start: usize) -> Field
-    requires { start ≤ length text.now }
-    ensures result_value { field_says text.now result ≡ quoted_field (drop start text.now) }
-    ensures field_inside { FieldInside text.now result }
+#[tactic(auto, using(crate::proofs::QuotedLaws::quoted_laws))]
+fn quoted(text: &[u8]) -> Option<Field<'_>>
+    ensures { field_says result ≡ quoted_field text.now }
 {
-    let mut end = start;
+    let mut rest = text;
     let mut len = 0;
-    while end < text.len() {
-        let width = inner_width(text, end);
-        if width == 0 {
-            return closed(text, start, end, len);
-        }
-        end += width;
+    while let Some(more) = after_inner(rest) {
+        rest = more;
         len += 1;
     }
-    Field::Broken
+    let [b'"', after @ ..] = rest else {
+        return None;
+    };
+    let part = &text[..text.len() - rest.len()];
+    let content = Content { part, len };
+    Some(Field {
+        content,
+        rest: after,
+    })
 }
 
-// An escaped field whose content has so many bytes, where the quote stands that closes it.
-fn closed(text: &[u8], start: usize, end: usize, len: usize) -> Field
-    ensures { result ≡ closed_at text.now start end len }
+// What comes after one byte of an escaped field's content, if one stands at the front: two quotes are one.
+fn after_inner(text: &[u8]) -> Option<&[u8]>
+    ensures { option_copied result ≡ after_inner text.now }
 {
-    if !stands(text, end, 34) {
-        return Field::Broken;
+    match text {
+        [b'"', b'"', rest @ ..] => Some(rest),
+        [byte, rest @ ..] if is_inner(*byte) => Some(rest),
+        _ => None,
     }
-    part(start, end, len, end + 1)
-}
-
-// A field that is read.
-fn part(start: usize, end: usize, len: usize, next: usize) -> Field
-    ensures { result ≡ part_field start end len next }
-{
-    let content = Content { start, end, len };
-    Field::Whole { content, next }
-}
-
-// How many bytes at a position are one of an escaped field's content: two for two quotes, none for a quote alone or a
-// byte that may not stand there.
-fn inner_width(text: &[u8], at: usize) -> usize
-    ensures { result ≡ inner_width (drop at text.now) }
-{
-    if text.len() <= at {
-        return 0;
-    }
-    if text[at] == 34 {
-        if stands(text, at + 1, 34) {
-            return 2;
-        }
-        return 0;
-    }
-    if is_inner(text[at]) {
-        return 1;
-    }
-    0
 }
 
 // Whether a byte may stand in an escaped field, besides two quotes.
 fn is_inner(byte: u8) -> bool
     ensures { result ≡ is_inner byte }
 {
-    if is_textdata(byte) {
-        return true;
-    }
-    if byte == 44 {
-        return true;
-    }
-    if byte == 13 {
-        return true;
-    }
-    byte == 10
+    is_textdata(byte) || matches!(byte, b',' | b'\r' | b'\n')
 }
 
 // Whether a byte is TEXTDATA: 32 to 126, but no quote and no comma.
 fn is_textdata(byte: u8) -> bool
     ensures { result ≡ is_textdata byte }
 {
-    if byte < 32 {
-        return false;
-    }
-    if 126 < byte {
-        return false;
-    }
-    if byte == 44 {
-        return false;
-    }
-    byte != 34
+    (32..=126).contains(&byte) && byte != b'"' && byte != b','
 }

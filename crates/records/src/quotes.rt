@@ -1,33 +1,29 @@
 // A content in which quotes stand doubled, gathered in a lent buffer.
-ghost use Rattle.std.specs.Prelude.{◌≡◌, ◌+◌, ◌≤◌, ◌<◌, length, take, drop};
-ghost use Rattle.records.specs.Contents.{undoubled, taken_width};
+ghost use Rattle.std.specs.Prelude.{◌≡◌, ◌≤◌, length, take};
+ghost use Rattle.records.specs.Undoubled.{undoubled, after_first};
 
 // Writes the content of a part into the front of a buffer that has room for it: of two quotes the first.
+#[tactic(auto, using(crate::proofs::GatherLaws::gather_laws))]
 pub fn gather(part: &[u8], buffer: &mut [u8])
     requires { length (undoubled part.now) ≤ length buffer.old }
     ensures { take (length (undoubled part.now)) buffer.new ≡ undoubled part.now }
 {
-    let mut from = 0;
+    let mut rest = part;
     let mut to = 0;
-    while from < part.len() {
-        buffer[to] = part[from];
-        from = after(part, from);
+    while let [byte, ..] = rest {
+        buffer[to] = *byte;
+        rest = after_first(rest);
         to += 1;
     }
 }
 
-// The position after a byte of the content: a quote stands before another.
-fn after(part: &[u8], at: usize) -> usize
-    requires { at < length part.now }
-    ensures value { result ≡ at + taken_width (drop at part.now) }
-    ensures lower_bound { at < result }
-    ensures upper_bound { result ≤ length part.now }
+// What comes after the first byte of a content: a quote stands before another.
+fn after_first(text: &[u8]) -> &[u8]
+    ensures { result.now ≡ after_first text.now }
 {
-    if part[at] != 34 {
-        return at + 1;
+    match text {
+        [b'"', _, rest @ ..] => rest,
+        [_, rest @ ..] => rest,
+        [] => text,
     }
-    if part.len() <= at + 1 {
-        return at + 1;
-    }
-    at + 2
 }

@@ -1,18 +1,11 @@
-use Rattle.records.proofs.QuotedLaws.{reading_begins, reading_goes_on, reading_stops}
-use Rattle.records.proofs.QuotedLaws.{reading_stops_at_end, closed_inside}
+use Rattle.std.proofs.Common.{rules}
+use Rattle.records.proofs.QuotedLaws.{reading_unclosed, reading_broken}
 use Rattle.records.proofs.fields.quoted.Goals as goal
+use Rattle.records.proofs.fields.quoted.Goals.{in_default-rest-via-then-rest-lt1, in_default-rest-via-else-rest-lt1+in_default-1}
 
-pub loop-end-init : goal.loop-end-init
-loop-end-init c = search reading_begins
-
-pub returns-then-width-eq0-clause-result_value : goal.returns-then-width-eq0-clause-result_value
-returns-then-width-eq0-clause-result_value c = search reading_stops
-
-pub returns-then-width-eq0-clause-field_inside : goal.returns-then-width-eq0-clause-field_inside
-returns-then-width-eq0-clause-field_inside c = search closed_inside
-
-pub loop-end-preserved : goal.loop-end-preserved
-loop-end-preserved c = search reading_goes_on
-
-pub returns-clause-result_value : goal.returns-clause-result_value
-returns-clause-result_value c = search reading_stops_at_end
+pub returns-in_default-rest : goal.returns-in_default-rest
+returns-in_default-rest c =
+    elim c.in_default-rest.branch [
+      | in_default-rest-via-then-rest-lt1 w ↦ reading_unclosed _ _ _ c.loop-more.invariant c.in_default.ensures (search rules)
+      | in_default-rest-via-else-rest-lt1+in_default-1 w ↦ reading_broken _ _ _ c.loop-more.invariant c.in_default.ensures (search rules)
+    ]
