@@ -3,7 +3,7 @@
 -- `rest_both`: it is told by the bytes there and by what is left after them.
 -- `none_same` to `four_same`, `past_some`, `past_four`: bytes that both have leave it to the index after them.
 -- `passes`, `stops`: bytes of one number leave it to the next index, others end it.
--- `ends_from`: the end of a label ends it.
+-- `ends_from`, `ends_short`: the end of a label ends it.
 -- `first_end`, `first_other_end`, `first_stops`, `first_passes`: the same of the whole comparison, at the first place.
 -- `order_end`, `order_other_end`, `order_bytes`: the order at the first place alone.
 -- `order_elsewhere`: the order at a place where a comparison does not end.
@@ -15,7 +15,8 @@ use native.Mathlib.Omega.{arith}
 use lib.ListN.{length, get_or, drop, drop_of_length-le}
 use lib.Seq.{drop-cons}
 use borrow.Author.Tests.{lt-ltb, eq-eqb, ne_eqb}
-use Rattle.std.specs.Ordering.{is_ne}
+use Rattle.std.specs.Ordering.{nat_cmp, is_ne}
+use Rattle.std.specs.Cmp.{nat_cmp_is}
 use Rattle.std.specs.declared.cmp.Ordering.{Ordering}
 use Rattle.std.specs.declared.cmp.Ordering.TheVariants.{Less, Equal, Greater}
 use Rattle.labels.specs.Labels.{Label, Comparison, smaller, same, larger, number_of, place_of}
@@ -137,6 +138,23 @@ pub ends_from : (x y : Label) (i j k end : ℕ) (c : Comparison) → rest x y i 
 ends_from x y i j k end c so short o over most is least e =
     let at : i ≡ k = omega arith in
     end_left x y k end o short (omega arith) e ∙ (rw at at so)
+
+-- at the shorter one's end it is by their lengths
+by_lengths : (m n end : ℕ) (o : Ordering) → end ≡ min m n → o ≡ nat_cmp m n → o ≡ at_end m n end
+unfolding at_end
+by_lengths m n end o short is = is ∙ go (ltb_view end m) (ltb_view end n)
+  where
+    go : {more also : Bool} → Ltb end m more → Ltb end n also → nat_cmp m n ≡ cond more Greater (cond also Less Equal)
+    go (lt_yes p) (lt_yes q) = absurd (omega arith)
+    go (lt_yes p) (lt_no q) = sym (nat_cmp_is m n Greater (omega arith))
+    go (lt_no p) (lt_yes q) = sym (nat_cmp_is m n Less (omega arith))
+    go (lt_no p) (lt_no q) = sym (nat_cmp_is m n Equal (omega arith))
+
+pub ends_short : (x y : Label) (i end : ℕ) (c : Comparison) → rest x y i ≡ c → end ≡ min (length x) (length y)
+    → (o : Ordering) → end ≤ i → i ≤ end → o ≡ nat_cmp (length x) (length y) → comparison_by o (end + 1) ≡ c
+ends_short x y i end c so short o over within is =
+    let at : i ≡ end = omega arith in
+    end_left x y end end o short (omega arith) (by_lengths (length x) (length y) end o short is) ∙ (rw at at so)
 
 -- a label that goes on where the other may end is the larger
 longer_at_end : (m n i : ℕ) → i < m → Greater ≡ at_end m n i

@@ -25,15 +25,15 @@ pub record HavePlaces (n : ℕ) (x y : Label) (i : ℕ) : Type 0 where
   pub first : i + n ≤ length x
   pub second : i + n ≤ length y
 
--- the shorter label ends at `end`, and y has index i, or ends there
+-- the shorter label ends at `end`, at index i or after it
 pub record EndsAt (x y : Label) (i end : ℕ) : Type 0 where
   pub short : end ≡ min (length x) (length y)
-  pub within : i ≤ length y
+  pub within : i ≤ end
 
--- an index after `from`, or itself, and not after the end of the label y
-pub record StaysWithin (from : ℕ) (y : Label) (i : ℕ) : Type 0 where
+-- an index after `from`, or itself, and not after `end`
+pub record StaysWithin (from end i : ℕ) : Type 0 where
   pub low : from ≤ i
-  pub high : i ≤ length y
+  pub high : i ≤ end
 
 -- a comparison with the label y may start at place d: y has that place, or ends there
 pub record StartsWithin (d : ℕ) (y : Label) : Type 0 where

@@ -44,14 +44,10 @@ fn same_of_four(x: &[u8], y: &[u8], i: usize) -> usize
 fn past_fours(x: &[u8], y: &[u8], from: usize, end: usize) -> usize
     requires { EndsAt x.now y.now from end }
     ensures result_value { rest x.now y.now result ≡ rest x.now y.now from }
-    ensures stays_within { StaysWithin from y.now result }
+    ensures stays_within { StaysWithin from end result }
 {
-    if end < 4 {
-        return from;
-    }
-    let last = end - 4;
     let mut i = from;
-    while i <= last {
+    while 4 <= end - i {
         let same = same_of_four(x, y, i);
         if same < 4 {
             return i + same;
@@ -77,11 +73,9 @@ fn onward(x: &[u8], y: &[u8], from: usize, end: usize) -> Compared
             };
         }
     }
-    let i = from.max(end);
-    let order = orders::at_end(x.len(), y.len(), i);
     Compared {
-        order,
-        place: i + 1,
+        order: x.len().cmp(&y.len()),
+        place: end + 1,
     }
 }
 

@@ -1,5 +1,5 @@
 use native.Mathlib.Omega.{arith}
-use Rattle.compares.proofs.Laws.{passes, stops, ends_from}
+use Rattle.compares.proofs.Laws.{passes, stops, ends_short}
 use Rattle.compares.proofs.onward.Goals as goal
 
 pub returns-then-is_ne-clause-result_value : goal.returns-then-is_ne-clause-result_value
@@ -9,4 +9,4 @@ pub loop-i-preserved : goal.loop-i-preserved
 loop-i-preserved c = (omega arith, search (passes, arith))
 
 pub returns-clause-result_value : goal.returns-clause-result_value
-returns-clause-result_value c = search (ends_from, arith)
+returns-clause-result_value c = search (ends_short, arith)
