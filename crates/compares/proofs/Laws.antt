@@ -3,11 +3,11 @@
 -- `rest_both`: it is told by the bytes there and by what is left after them.
 -- `none_same` to `four_same`, `past_some`, `past_four`: bytes that both have leave it to the index after them.
 -- `passes`, `stops`: bytes of one number leave it to the next index, others end it.
--- `ends_from`, `ends_short`: the end of a label ends it.
--- `first_end`, `first_other_end`, `first_stops`, `first_passes`: the same of the whole comparison, at the first place.
+-- `ends_short`: the end of the shorter label ends it.
+-- `at_first`, `first_end`, `first_other_end`, `first_stops`, `first_passes`: the same of the whole comparison, at the first place.
 -- `order_end`, `order_other_end`, `order_bytes`: the order at the first place alone.
 -- `order_elsewhere`: the order at a place where a comparison does not end.
-use Prim.Native.Nat.{ℕ, suc, ◌+◌, ◌-◌, ◌≤◌, ◌<◌, min, max, compare}
+use Prim.Native.Nat.{ℕ, suc, ◌+◌, ◌-◌, ◌≤◌, ◌<◌, min, compare}
 use mathlib.Core.Path.{◌≡◌, refl, sym, ◌∙◌}
 use mathlib.Core.Bool.{Bool, true, false, cond, true≢false}
 use native.Mathlib.Numerals.{add-one}
@@ -131,14 +131,6 @@ pub end_left : (x y : Label) (i end : ℕ) (o : Ordering) → end ≡ min (lengt
     → o ≡ at_end (length x) (length y) i → comparison_by o (i + 1) ≡ rest x y i
 end_left x y i end o short over e = rw (add-one, e) (sym (rest_ended x y i (omega arith)))
 
--- where c is left at index i, the end of a label, at that index, ends it
-pub ends_from : (x y : Label) (i j k end : ℕ) (c : Comparison) → rest x y i ≡ c → end ≡ min (length x) (length y)
-    → (o : Ordering) → end ≤ i → i ≤ max j end → k ≡ max j end → j ≤ i → o ≡ at_end (length x) (length y) k
-    → comparison_by o (k + 1) ≡ c
-ends_from x y i j k end c so short o over most is least e =
-    let at : i ≡ k = omega arith in
-    end_left x y k end o short (omega arith) e ∙ (rw at at so)
-
 -- at the shorter one's end it is by their lengths
 by_lengths : (m n end : ℕ) (o : Ordering) → end ≡ min m n → o ≡ nat_cmp m n → o ≡ at_end m n end
 unfolding at_end
@@ -150,6 +142,7 @@ by_lengths m n end o short is = is ∙ go (ltb_view end m) (ltb_view end n)
     go (lt_no p) (lt_yes q) = sym (nat_cmp_is m n Less (omega arith))
     go (lt_no p) (lt_no q) = sym (nat_cmp_is m n Equal (omega arith))
 
+-- where c is left at the shorter one's end, their lengths end it
 pub ends_short : (x y : Label) (i end : ℕ) (c : Comparison) → rest x y i ≡ c → end ≡ min (length x) (length y)
     → (o : Ordering) → end ≤ i → i ≤ end → o ≡ nat_cmp (length x) (length y) → comparison_by o (end + 1) ≡ c
 ends_short x y i end c so short o over within is =
@@ -164,7 +157,7 @@ longer_at_end m n i more = rw (lt-ltb i m more)
 -- the first place
 module _ (x y : Label) (d : ℕ) (positive : 1 ≤ d) where
   -- what is left there is the whole comparison
-  at_first : (c : Comparison) → c ≡ rest x y (d - 1) → c ≡ compare_from d x y
+  pub at_first : (c : Comparison) → c ≡ rest x y (d - 1) → c ≡ compare_from d x y
   at_first c is = is ∙ rest_start d x y positive
 
   -- x ends there, or y alone

@@ -3,8 +3,10 @@
 // the place at which it ends; the crate `eights` has one that does. `at_place` gives the order at one place alone.
 #![tactic(auto)]
 
-ghost use Rattle.std.specs.Prelude.{◌≡◌, ◌+◌, ◌≤◌};
+ghost use Rattle.std.specs.Prelude.{◌≡◌, ◌+◌, ◌≤◌, ℕ};
+ghost use Rattle.std.specs.declared.cmp.Ordering.{Ordering};
 ghost use Rattle.labels.specs.Labels.{compare_from};
+ghost use Rattle.orders.specs.Orders.{by_numbers};
 ghost use Rattle.compares.specs.Compares.{comparison_of, rest, order_at, HavePlaces};
 ghost use Rattle.compares.specs.Compares.{StartsWithin, EndsWithin, EndsAt, StaysWithin};
 
@@ -57,15 +59,22 @@ fn past_fours(x: &[u8], y: &[u8], from: usize, end: usize) -> usize
     i
 }
 
-// How x lies to y from the index from on, place by place; the shorter label ends at `end`. Unlike bytes are folded only
-// where they do not show the order.
-fn onward(x: &[u8], y: &[u8], from: usize, end: usize) -> Compared
-    requires { EndsAt x.now y.now from end }
+// How x lies to y from the index from on, place by place, by this order of two bytes; the shorter label ends at `end`.
+fn onward<F: Fn(u8, u8) -> Ordering>(
+    x: &[u8],
+    y: &[u8],
+    from: usize,
+    end: usize,
+    order_of: F,
+) -> Compared
+    requires ends_at { EndsAt x.now y.now from end }
+    requires callable { F.IsAlwaysCallable order_of }
+    requires by_numbers { (a b : ℕ) (o : Ordering) → F.post order_of a b o → o ≡ by_numbers a b }
     ensures result_value { comparison_of result ≡ rest x.now y.now from }
     ensures ends_within { EndsWithin (from + 1) y.now result.place }
 {
     for i in from..end {
-        let order = orders::by_sight(x[i], y[i]);
+        let order = order_of(x[i], y[i]);
         if order.is_ne() {
             return Compared {
                 order,
@@ -117,7 +126,7 @@ pub fn compare(x: &[u8], y: &[u8], d: usize) -> Compared
     }
     let end = x.len().min(y.len());
     let i = past_fours(x, y, d, end);
-    onward(x, y, i, end)
+    onward(x, y, i, end, orders::by_sight)
 }
 
 // The same, place by place, each byte read once, by the numbers in the table.
@@ -126,20 +135,11 @@ pub fn by_table(x: &[u8], y: &[u8], d: usize) -> Compared
     ensures result_value { comparison_of result ≡ compare_from d x.now y.now }
     ensures ends_within { EndsWithin d y.now result.place }
 {
+    let from = d - 1;
     let end = x.len().min(y.len());
-    for i in d - 1..end {
-        let order = orders::by_table(x[i], y[i]);
-        if order.is_ne() {
-            return Compared {
-                order,
-                place: i + 1,
-            };
-        }
+    if end < from {
+        let order = orders::at_end(x.len(), y.len(), from);
+        return Compared { order, place: d };
     }
-    let i = (d - 1).max(end);
-    let order = orders::at_end(x.len(), y.len(), i);
-    Compared {
-        order,
-        place: i + 1,
-    }
+    onward(x, y, from, end, orders::by_table)
 }

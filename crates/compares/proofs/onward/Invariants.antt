@@ -6,4 +6,4 @@ use Rattle.compares.specs.Compares.{rest}
 use Rattle.compares.proofs.onward.Given as goal
 
 abbrev pub invariant-loop-i : goal.invariant-loop-i
-invariant-loop-i l = (l.i ≤ l.end) × (rest l.x l.y l.i ≡ rest l.x l.y l.from)
+invariant-loop-i g l = (l.i ≤ l.end) × (rest l.x l.y l.i ≡ rest l.x l.y l.from)
