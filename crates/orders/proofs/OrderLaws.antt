@@ -1,24 +1,16 @@
 -- The order by two bytes.
 -- `decided`, `compare_decided`: it says how the comparison of their numbers goes on.
--- `number_lower`: a byte's number is one more than its small letter.
--- `by_lower`: the order is that of the small letters.
--- `same_lower`: so is whether their numbers are one.
 -- `same_bytes`, `by_shown`: it is what the bytes show, where they are the same or show one.
-use Prim.Native.Nat.{ℕ, ◌+◌, ◌<◌, compare, Ordering as Compared}
-use mathlib.Core.Path.{◌≡◌, refl, sym, ap, ◌∙◌}
+use Prim.Native.Nat.{ℕ, ◌<◌, compare, Ordering as Compared}
+use mathlib.Core.Path.{◌≡◌, refl, ap, ◌∙◌}
 use mathlib.Core.Bool.{Bool, true, false, ◌&&◌, cond, true≢false}
 use native.Mathlib.Omega.{arith}
-use lib.Dec.{eqb}
-use borrow.Author.Tests.{eq-eqb, ne_eqb}
-use Rattle.std.specs.Ordering.{nat_cmp, MatchOrdering}
+use Rattle.std.specs.Ordering.{MatchOrdering}
 use Rattle.std.specs.declared.cmp.Ordering.{Ordering}
 use Rattle.std.specs.declared.cmp.Ordering.TheVariants.{Less, Equal, Greater}
-use Rattle.std.specs.Char.{to_ascii_lowercase}
-use Rattle.std.proofs.lemmas.Bool.Decides.{nat_tests}
-use Rattle.std.specs.Cmp.{ranked, nat_cmp_is}
+use Rattle.std.specs.Cmp.{nat_cmp_is}
 use Rattle.labels.specs.Labels.{Comparison, smaller, larger, number_of, compare_numbers}
 use Rattle.labels.proofs.Numbers.{Ordered, is_lt, is_eq, is_gt, ordered, Ltb, lt_yes, lt_no, ltb_view}
-use Rattle.labels.proofs.Numbers.{Eqb, eq_yes, eq_no, eqb_view}
 use Rattle.labels.proofs.Numbers.{Leb, le_yes, le_no, leb_view, Numbered, of_capital, of_other, number_view}
 use Rattle.orders.specs.Orders.{by_numbers, parts, shown}
 
@@ -27,14 +19,6 @@ abbrev pub decided : Ordering → ℕ → Comparison → Comparison
 decided Less i further = smaller i
 decided Equal i further = further
 decided Greater i further = larger i
-
--- a byte's number is one more than its small letter
-pub number_lower : (byte : ℕ) → number_of byte ≡ to_ascii_lowercase byte + 1
-number_lower byte = go (number_view byte)
-  where
-    go : {n : ℕ} → Numbered byte n → n ≡ to_ascii_lowercase byte + 1
-    go (of_capital low high) = grind (arith, nat_tests)
-    go (of_other outside) = grind (arith, nat_tests)
 
 module _ (a b : ℕ) where
   -- the order of their numbers
@@ -49,27 +33,6 @@ module _ (a b : ℕ) where
   pub by_more : number_of b < number_of a → Greater ≡ by_numbers a b
   unfolding by_numbers
   by_more more = nat_cmp_is (number_of a) (number_of b) Greater more
-
-  -- the order of their small letters
-  pub by_lower : (o : Ordering) → o ≡ nat_cmp (to_ascii_lowercase a) (to_ascii_lowercase b) → o ≡ by_numbers a b
-  by_lower o e = go o (ranked (to_ascii_lowercase a) (to_ascii_lowercase b) o e)
-    where
-      go : (o : Ordering)
-          → MatchOrdering o (to_ascii_lowercase a < to_ascii_lowercase b) (to_ascii_lowercase a ≡ to_ascii_lowercase b) (to_ascii_lowercase b < to_ascii_lowercase a)
-          → o ≡ by_numbers a b
-      go Less less = by_less (omega (arith, number_lower a, number_lower b))
-      go Equal equal = by_equal (omega (arith, number_lower a, number_lower b))
-      go Greater more = by_more (omega (arith, number_lower a, number_lower b))
-
-  -- whether their small letters are one
-  pub same_lower : eqb (to_ascii_lowercase a) (to_ascii_lowercase b) ≡ eqb (number_of a) (number_of b)
-  same_lower = go (eqb_view (to_ascii_lowercase a) (to_ascii_lowercase b))
-    where
-      go : {found : Bool} → Eqb (to_ascii_lowercase a) (to_ascii_lowercase b) found → found ≡ eqb (number_of a) (number_of b)
-      go (eq_yes equal) =
-          sym (eq-eqb (number_of a) (number_of b) (omega (arith, number_lower a, number_lower b)))
-      go (eq_no other) =
-          sym (ne_eqb (number_of a) (number_of b) (λ e. other (omega (arith, e, number_lower a, number_lower b))))
 
   -- the comparison of their numbers, by their order
   pub compare_decided : (i : ℕ) (further : Comparison)

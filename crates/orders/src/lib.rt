@@ -46,7 +46,7 @@ pub fn shown(a: u8, b: u8) -> Ordering
 }
 
 // Whether one number stands for two bytes.
-#[tactic(auto, using(crate::proofs::OrderLaws::same_lower))]
+#[tactic(auto, using(std::proofs::lemmas::Grind::common_steps), unfolding(labels::specs::Labels::number_of))]
 pub fn same_letter(a: u8, b: u8) -> bool
     ensures { result ≡ eqb (number_of a) (number_of b) }
 {
@@ -54,7 +54,7 @@ pub fn same_letter(a: u8, b: u8) -> bool
 }
 
 // The order by two bytes, with no table.
-#[tactic(auto, using(crate::proofs::OrderLaws::by_lower))]
+#[tactic(auto, using(std::proofs::lemmas::Grind::common_steps), unfolding(crate::specs::Orders::by_numbers, labels::specs::Labels::number_of))]
 pub fn by_letters(a: u8, b: u8) -> Ordering
     ensures { result ≡ by_numbers a b }
 {
