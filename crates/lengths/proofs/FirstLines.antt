@@ -4,15 +4,16 @@
 -- `lines_refused`, `lines_passed`: what was said of lines where nothing stands below them.
 -- `memory_refused`, `memory_passed`: a refusal by a lent length is the call's; past it the lines below decide.
 -- `sizes_passed`, `sizes_fit`, `label_passed`: past them the table and the store have their sizes, and the label fits.
+-- `label_empty`, `label_long`, `label_taken`: what is said where a label is tested besides.
 -- `lengths_refused`, `lengths_passed`, `lengths_fit_lem`: the same of both.
 use mathlib.Core.List.{List}
 use mathlib.Core.Bool.{Bool, true, false, not}
 use mathlib.Core.Path.{◌≡◌, refl, sym, ap, ◌∙◌}
-use Prim.Native.Nat.{ℕ}
+use Prim.Native.Nat.{ℕ, ◌≤◌, ◌<◌}
 use native.Mathlib.Omega.{arith}
 use lib.Dec.{eqb, ltb}
 use lib.ListN.{length}
-use borrow.Author.Tests.{not-false, eqb-true, eqb-false, ltb-false}
+use borrow.Author.Tests.{not-false, eqb-true, eqb-false, ltb-false, eq-eqb, ne_eqb, lt-ltb, le-ltb}
 use Rattle.std.specs.Prelude.{Result, Ok, Err}
 use Rattle.types.specs.declared.Limits.{Limits}
 use Rattle.types.specs.declared.Refusal.{Refusal}
@@ -110,6 +111,19 @@ module _ (limits : Limits) (table store : List ℕ) where
     -- past them the table and the store have their sizes
     pub sizes_fit : LimitsFit limits → tested ≡ Ok tt → SizesFit limits table store
     sizes_fit fit e = (sizes_passed pass fit (sym (ap test_says e) ∙ says)).0
+
+    -- a label is tested past them
+    module _ (x : Label) (passed : tested ≡ Ok tt) where
+      pub label_empty : length x ≡ 0 → refuse 3 ≡ of_memory limits table store (of_label limits x pass)
+      label_empty none = rw (memory_passed passed (of_label limits x pass), eq-eqb _ _ none)
+
+      pub label_long : (length x ≡ 0 → ⊥) → limits.width < length x
+          → refuse 4 ≡ of_memory limits table store (of_label limits x pass)
+      label_long some long = rw (memory_passed passed (of_label limits x pass), ne_eqb _ _ some, lt-ltb _ _ long)
+
+      pub label_taken : (length x ≡ 0 → ⊥) → length x ≤ limits.width
+          → pass ≡ of_memory limits table store (of_label limits x pass)
+      label_taken some short = rw (memory_passed passed (of_label limits x pass), ne_eqb _ _ some, le-ltb _ _ short)
 
   module _ (x : Label) where
     abbrev lengths_before : Verdict → Verdict
