@@ -14,3 +14,33 @@ pub fn fresh() -> Output {
     }
     output
 }
+
+// What is written into the front of an output: of bytes past its end it keeps the count alone.
+#[derive(Drop)]
+pub struct Front<'a> {
+    output: &'a mut Output,
+    len: usize,
+}
+
+impl Front<'_> {
+    pub fn new(output: &mut Output) -> Front<'_> {
+        Front { output, len: 0 }
+    }
+
+    pub fn len(&self) -> usize {
+        self.len
+    }
+
+    pub fn push(&mut self, byte: u8) {
+        let at = self.len;
+        if let Some(place) = self.output.get_mut(at) {
+            *place = byte;
+        }
+        self.len = at.wrapping_add(1);
+    }
+
+    // So many of the last bytes are no part of it.
+    pub fn cut(&mut self, bytes: usize) {
+        self.len = self.len.wrapping_sub(bytes);
+    }
+}

@@ -1,93 +1,108 @@
 // The charges at the edges, set on memory that is sound and on memory that is refused.
-use crate::planned;
-use crate::planned::Planned;
+use crate::planned::{Due, Planned};
 use images::memory::{Entry, Head, Image};
-use samples::charges;
+use samples::charges::{EDGES, RIGHT_EDGES};
 use samples::shapes::Shape;
-use std::num::wrapping_add_usize;
 
 // The memories: sound; with a table of a word less, a store of a byte less, or both; with a head that says one label
 // more than there is.
-pub const SOUND: usize = 0;
-
-const TABLE_LESS: usize = 1;
-
-const STORE_LESS: usize = 2;
-
-const BOTH_LESS: usize = 3;
-
-const UNSOUND: usize = 4;
-
-pub const MEMORIES: usize = 5;
+#[derive(Clone, Copy, Debug, PartialEq, Eq)]
+pub enum Memory {
+    Sound,
+    TableLess,
+    StoreLess,
+    BothLess,
+    Unsound,
+}
 
 // The labels: the roster's second, which is held, its first, which is not, one too long, and none.
-const HELD: usize = 0;
+#[derive(Clone, Copy, Debug, PartialEq, Eq)]
+enum Given {
+    Held,
+    Absent,
+    Longer,
+    Empty,
+}
 
-const ABSENT: usize = 1;
-
-const LONGER: usize = 2;
+const GIVEN: [Given; 4] = [Given::Held, Given::Absent, Given::Longer, Given::Empty];
 
 // The calls on each memory: every charge, for each of the four labels.
 pub const CALLS: usize = 44;
 
-// Makes one of these memories of sound memory.
-pub fn make(image: &mut Image, state: usize) {
-    if (state == TABLE_LESS) | (state == BOTH_LESS) {
-        image.lent.words = image.lent.words.saturating_sub(1);
+impl Memory {
+    // Those that are refused.
+    pub const REFUSED: [Memory; 4] = [
+        Memory::TableLess,
+        Memory::StoreLess,
+        Memory::BothLess,
+        Memory::Unsound,
+    ];
+
+    // Makes one of these memories of sound memory.
+    pub fn make(self, image: &mut Image) {
+        match self {
+            Memory::Sound => {}
+            Memory::TableLess => image.lent.words = image.lent.words.saturating_sub(1),
+            Memory::StoreLess => image.lent.bytes = image.lent.bytes.saturating_sub(1),
+            Memory::BothLess => {
+                image.lent.words = image.lent.words.saturating_sub(1);
+                image.lent.bytes = image.lent.bytes.saturating_sub(1);
+            }
+            Memory::Unsound => {
+                let held = image.head(Head::Held);
+                image.put(Entry::of_head(Head::Held), held.wrapping_add(1));
+            }
+        }
     }
-    if (state == STORE_LESS) | (state == BOTH_LESS) {
-        image.lent.bytes = image.lent.bytes.saturating_sub(1);
+
+    // Call `i` on a memory.
+    pub fn call(self, i: usize) -> Planned {
+        let edge = i % EDGES.len();
+        let given = GIVEN[i / EDGES.len() % GIVEN.len()];
+        let (shape, label) = given.label();
+        Planned::charge(
+            shape,
+            label,
+            EDGES[edge],
+            self.due(given, edge < RIGHT_EDGES),
+        )
     }
-    if state == UNSOUND {
-        let held = image.head(Head::Held);
-        image.put(Entry::of_head(Head::Held), wrapping_add_usize(held, 1));
+
+    // By the table's length, then the store's, then what is given, then what is held.
+    fn due(self, given: Given, is_right: bool) -> Due {
+        match self {
+            Memory::Sound => given.due(is_right, given.held_due()),
+            Memory::Unsound => given.due(is_right, Due::Refused(6)),
+            Memory::StoreLess => Due::Refused(2),
+            Memory::TableLess | Memory::BothLess => Due::Refused(1),
+        }
     }
 }
 
-// Call `i` on a memory.
-pub fn call(state: usize, i: usize) -> Planned {
-    let label = i / charges::EDGES.len();
-    let edge = i % charges::EDGES.len();
-    let number = refusal(state, label, edge);
-    let charge = charges::EDGES.get(edge).copied().unwrap_or(0);
-    match label {
-        HELD => planned::charge(Shape::Roster, 1, charge, number),
-        ABSENT => planned::charge(Shape::Roster, 0, charge, number),
-        LONGER => planned::charge(Shape::Longest, 1, charge, number),
-        _ => planned::charge(Shape::Longest, 2, charge, number),
+impl Given {
+    fn label(self) -> (Shape, usize) {
+        match self {
+            Given::Held => (Shape::Roster, 1),
+            Given::Absent => (Shape::Roster, 0),
+            Given::Longer => (Shape::Longest, 1),
+            Given::Empty => (Shape::Longest, 2),
+        }
     }
-}
 
-// The refusal's number, or 0: by the table's length, then the store's, then what is given, then what is held.
-fn refusal(state: usize, label: usize, edge: usize) -> usize {
-    match state {
-        SOUND => given_refusal(label, edge, held_refusal(label)),
-        UNSOUND => given_refusal(label, edge, 6),
-        STORE_LESS => 2,
-        _ => 1,
+    // By the label's length, then the charge; or another.
+    fn due(self, is_right: bool, other: Due) -> Due {
+        match self {
+            Given::Longer => Due::Refused(4),
+            Given::Empty => Due::Refused(3),
+            Given::Held | Given::Absent if is_right => other,
+            Given::Held | Given::Absent => Due::Refused(24),
+        }
     }
-}
 
-// The number that refuses the label by its length, then the charge; or another.
-fn given_refusal(label: usize, edge: usize, other: usize) -> usize {
-    match label {
-        HELD => charge_refusal(edge, other),
-        ABSENT => charge_refusal(edge, other),
-        LONGER => 4,
-        _ => 3,
+    fn held_due(self) -> Due {
+        match self {
+            Given::Absent => Due::Refused(8),
+            _ => Due::Done,
+        }
     }
-}
-
-fn charge_refusal(edge: usize, other: usize) -> usize {
-    if edge < charges::RIGHT_EDGES {
-        return other;
-    }
-    24
-}
-
-fn held_refusal(label: usize) -> usize {
-    if label == ABSENT {
-        return 8;
-    }
-    0
 }

@@ -1,114 +1,102 @@
 // The tables of the hub whose files are at an edge: how they are made, and how many bytes the file of each has.
 use samples::calls::Call;
 use samples::shapes::Shape;
-use std::num::wrapping_add_usize;
 
 // The groups: no label, in a fresh table and in one filled and emptied; one label of one byte, and one of 64, with the
 // values at which a number begins to take one byte, two or three, and those before; 127 labels, 128 and 129; 512 labels
 // of 64 bytes with the greatest value; 102 of these, each given a charge.
-pub const GROUPS: usize = 6;
-
-const EMPTY: usize = 0;
-
-const SHORT_LABEL: usize = 1;
-
-const LONG_LABEL: usize = 2;
-
-const COUNTS: usize = 3;
-
-const FULL: usize = 4;
+#[derive(Clone, Copy, Debug, PartialEq, Eq)]
+pub enum Group {
+    Empty,
+    ShortLabel,
+    LongLabel,
+    Counts,
+    Full,
+    Charged,
+}
 
 // A table: the first labels of a shape are inserted, all with one value; then each is deleted or given a charge, or
-// neither, where the call is a save; and the bytes of its file.
-#[derive(Clone, Copy)]
+// neither; and the bytes of its file.
+#[derive(Clone, Copy, Debug)]
 pub struct Edge {
     pub shape: Shape,
     pub labels: usize,
-    pub value: usize,
-    pub then: Call,
+    pub value: u16,
+    pub then: Option<Call>,
     pub bytes: usize,
 }
 
-pub fn shape(group: usize) -> Shape {
-    match group {
-        SHORT_LABEL => Shape::Short,
-        LONG_LABEL => Shape::Longest,
-        EMPTY | COUNTS => Shape::Roster,
-        _ => Shape::Widest,
-    }
-}
+// Values, and the bytes that each takes.
+const VALUES: [(u16, usize); 6] = [
+    (0, 1),
+    (127, 1),
+    (128, 2),
+    (16383, 2),
+    (16384, 3),
+    (65535, 3),
+];
 
-// How many tables a group has.
-pub fn tables(group: usize) -> usize {
-    match group {
-        EMPTY => 2,
-        SHORT_LABEL => 6,
-        LONG_LABEL => 6,
-        COUNTS => 3,
-        _ => 1,
-    }
-}
+// Counts of labels of 10 bytes with value 0, and the bytes of their file: 12 for each, and one or two before them.
+const COUNTS: [(usize, usize); 3] = [(127, 1525), (128, 1538), (129, 1550)];
 
-// Table `i` of a group.
-pub fn table(group: usize, i: usize) -> Edge {
-    let shape = shape(group);
-    match group {
-        EMPTY => made(shape, 512 * (i % 2), 300, Call::Delete, 1),
-        SHORT_LABEL => made(
-            shape,
-            1,
-            value(i),
-            Call::Save,
-            wrapping_add_usize(3, taken(i)),
-        ),
-        LONG_LABEL => made(
-            shape,
-            1,
-            value(i),
-            Call::Save,
-            wrapping_add_usize(66, taken(i)),
-        ),
-        COUNTS => made(shape, 127 + i % 3, 0, Call::Save, counted(i)),
-        FULL => made(shape, 512, 65535, Call::Save, 34818),
-        _ => made(shape, 102, 65535, Call::SetCharge, 6937),
-    }
-}
+impl Group {
+    pub const ALL: [Group; 6] = [
+        Group::Empty,
+        Group::ShortLabel,
+        Group::LongLabel,
+        Group::Counts,
+        Group::Full,
+        Group::Charged,
+    ];
 
-fn made(shape: Shape, labels: usize, value: usize, then: Call, bytes: usize) -> Edge {
-    Edge {
-        shape: shape,
-        labels: labels,
-        value: value,
-        then: then,
-        bytes: bytes,
+    pub fn name(self) -> &'static str {
+        match self {
+            Group::Empty => "empty",
+            Group::ShortLabel | Group::LongLabel => "values",
+            Group::Counts => "counts",
+            Group::Full => "full",
+            Group::Charged => "charged",
+        }
     }
-}
 
-fn value(i: usize) -> usize {
-    match i {
-        0 => 0,
-        1 => 127,
-        2 => 128,
-        3 => 16383,
-        4 => 16384,
-        _ => 65535,
+    pub fn shape(self) -> Shape {
+        match self {
+            Group::Empty | Group::Counts => Shape::Roster,
+            Group::ShortLabel => Shape::Short,
+            Group::LongLabel => Shape::Longest,
+            Group::Full | Group::Charged => Shape::Widest,
+        }
     }
-}
 
-// The bytes that such a value takes.
-fn taken(i: usize) -> usize {
-    match i {
-        0 | 1 => 1,
-        2 | 3 => 2,
-        _ => 3,
+    // Table `i` of the group, where it has so many.
+    pub fn table(self, i: usize) -> Option<Edge> {
+        match self {
+            Group::Empty if i < 2 => Some(self.edge(512 * i, 300, Some(Call::Delete), 1)),
+            Group::ShortLabel => {
+                let (value, bytes) = *VALUES.get(i)?;
+                Some(self.edge(1, value, None, bytes.wrapping_add(3)))
+            }
+            Group::LongLabel => {
+                let (value, bytes) = *VALUES.get(i)?;
+                Some(self.edge(1, value, None, bytes.wrapping_add(66)))
+            }
+            Group::Counts => {
+                let (labels, bytes) = *COUNTS.get(i)?;
+                Some(self.edge(labels, 0, None, bytes))
+            }
+            Group::Full if i == 0 => Some(self.edge(512, 65535, None, 34818)),
+            Group::Charged if i == 0 => Some(self.edge(102, 65535, Some(Call::SetCharge), 6937)),
+            _ => None,
+        }
     }
-}
 
-// The bytes of a file of 127, 128 or 129 labels of 10 bytes with value 0: 12 for each, and one or two before them.
-fn counted(i: usize) -> usize {
-    match i {
-        0 => 1525,
-        1 => 1538,
-        _ => 1550,
+    fn edge(self, labels: usize, value: u16, then: Option<Call>, bytes: usize) -> Edge {
+        Edge {
+            shape: self.shape(),
+            labels,
+            value,
+            then,
+            bytes,
+        }
     }
 }

@@ -1,282 +1,252 @@
 // The groups of calls on sound tables: which calls they make.
-use crate::planned::{Planned, judged, named};
+use crate::planned::{Due, Planned};
 use crate::{charging, edges};
 use samples::calls::Call;
 use samples::numbers;
 use samples::shapes::Shape;
-use std::num::{wrapping_add_usize, wrapping_sub_usize};
 
-pub const GROUPS: usize = 25;
+// The ways of a group.
+#[derive(Clone, Copy, Debug, PartialEq, Eq)]
+pub enum Way {
+    // Case 11 of the paper, by the index's sizes.
+    Case,
+    // All labels of a shape inserted, searched and deleted, in order, in reverse or in steps of 333, and one inserted
+    // alone.
+    InOrder,
+    Reversed,
+    Stepped,
+    // Calls drawn from a generator.
+    Drawn,
+    // Some labels inserted, then twelve deleted.
+    Prepared,
+    // A full table of names, each inserted again in another spelling.
+    Respelled,
+    // The hub alone has the others: calls drawn, of which some set charges; labels inserted, each given a charge,
+    // deleted and inserted anew; the charges at the edges.
+    ChargesDrawn,
+    Charged,
+    ChargeEdges,
+}
 
-// The ways of a group: case 11 of the paper, by the index's sizes; all labels of a shape inserted, searched and
-// deleted, in order, in reverse or in steps of 333, and one inserted alone; calls drawn from a generator; some labels
-// inserted, then twelve deleted; a full table of names, each inserted again in another spelling. The hub alone has the
-// others: calls drawn, of which some set charges; labels inserted, each given a charge, deleted and inserted anew; the
-// charges at the edges.
-pub const CASE: usize = 0;
-
-pub const IN_ORDER: usize = 1;
-
-pub const REVERSED: usize = 2;
-
-pub const STEPPED: usize = 3;
-
-pub const DRAWN: usize = 4;
-
-pub const PREPARED: usize = 5;
-
-pub const RESPELLED: usize = 6;
-
-pub const CHARGES_DRAWN: usize = 7;
-
-pub const CHARGED: usize = 8;
-
-pub const CHARGE_EDGES: usize = 9;
+impl Way {
+    pub fn name(self) -> &'static str {
+        match self {
+            Way::Case => "case 11",
+            Way::InOrder => "in order",
+            Way::Reversed => "reversed",
+            Way::Stepped => "stepped",
+            Way::Drawn => "drawn",
+            Way::Prepared => "prepared",
+            Way::Respelled => "respelled",
+            Way::ChargesDrawn => "charges drawn",
+            Way::Charged => "charged",
+            Way::ChargeEdges => "charge edges",
+        }
+    }
+}
 
 // A group: its way, its shape, and of how many labels.
-#[derive(Clone, Copy)]
+#[derive(Clone, Copy, Debug)]
 pub struct Plan {
-    pub way: usize,
+    pub way: Way,
     pub shape: Shape,
     pub labels: usize,
 }
 
-// A group's plan on an index of so many slots.
-pub fn plan_of(group: usize, slots: usize) -> Plan {
-    match group {
-        0 => group_of(CASE, Shape::Roster, slots),
-        1 => group_of(IN_ORDER, Shape::Roster, surplus(slots)),
-        2 => group_of(REVERSED, Shape::Roster, surplus(slots)),
-        3 => group_of(STEPPED, Shape::Alike, surplus(slots)),
-        4 => group_of(STEPPED, Shape::Ends, surplus(slots)),
-        5 => group_of(STEPPED, Shape::Any, surplus(slots)),
-        6 => group_of(DRAWN, Shape::Roster, surplus(slots)),
-        7 => group_of(DRAWN, Shape::Alike, surplus(slots)),
-        8 => group_of(DRAWN, Shape::Ends, surplus(slots)),
-        9 => group_of(DRAWN, Shape::Short, surplus(slots)),
-        10 => group_of(DRAWN, Shape::Any, surplus(slots)),
-        11 => group_of(STEPPED, Shape::Spelled, surplus(slots)),
-        12 => group_of(DRAWN, Shape::Spelled, many(slots)),
-        13 => group_of(DRAWN, Shape::Letters, many(slots)),
-        14 => group_of(RESPELLED, Shape::Spelled, slots),
-        _ => later_plan(group, slots),
+// The plans on an index of so many slots.
+pub fn plans(slots: usize) -> [Plan; 25] {
+    // More labels than there are slots: 800 for the hub, 50 for the page.
+    let surplus = slots % 513 * 25 / 16;
+    // Four times as many labels, where several are one in different spellings; 800 at most.
+    let many = (slots % 513 * 25 / 4).min(800);
+    // So many labels, or else two fewer than there are slots.
+    let fewer = slots.wrapping_sub(2);
+    [
+        group(Way::Case, Shape::Roster, slots),
+        group(Way::InOrder, Shape::Roster, surplus),
+        group(Way::Reversed, Shape::Roster, surplus),
+        group(Way::Stepped, Shape::Alike, surplus),
+        group(Way::Stepped, Shape::Ends, surplus),
+        group(Way::Stepped, Shape::Any, surplus),
+        group(Way::Drawn, Shape::Roster, surplus),
+        group(Way::Drawn, Shape::Alike, surplus),
+        group(Way::Drawn, Shape::Ends, surplus),
+        group(Way::Drawn, Shape::Short, surplus),
+        group(Way::Drawn, Shape::Any, surplus),
+        group(Way::Stepped, Shape::Spelled, surplus),
+        group(Way::Drawn, Shape::Spelled, many),
+        group(Way::Drawn, Shape::Letters, many),
+        group(Way::Respelled, Shape::Spelled, slots),
+        group(Way::ChargesDrawn, Shape::Alike, surplus),
+        group(Way::ChargesDrawn, Shape::Any, surplus),
+        group(Way::ChargesDrawn, Shape::Spelled, many),
+        group(Way::Charged, Shape::Roster, slots.wrapping_sub(1)),
+        group(Way::ChargeEdges, Shape::Roster, 4),
+        group(Way::Prepared, Shape::Alike, fewer.min(45)),
+        group(Way::Prepared, Shape::Ends, fewer.min(70)),
+        group(Way::Prepared, Shape::Letters, fewer.min(70)),
+        group(Way::Prepared, Shape::Four, fewer.min(70)),
+        group(Way::Prepared, Shape::Roster, slots.wrapping_add(48)),
+    ]
+}
+
+fn group(way: Way, shape: Shape, labels: usize) -> Plan {
+    Plan { way, shape, labels }
+}
+
+impl Plan {
+    // Whether it makes calls that the pairing page's index does not have.
+    pub fn is_hubs(self) -> bool {
+        matches!(
+            self.way,
+            Way::ChargesDrawn | Way::Charged | Way::ChargeEdges
+        )
     }
-}
 
-// The plan of a group with a number above 14.
-fn later_plan(group: usize, slots: usize) -> Plan {
-    match group {
-        15 => group_of(CHARGES_DRAWN, Shape::Alike, surplus(slots)),
-        16 => group_of(CHARGES_DRAWN, Shape::Any, surplus(slots)),
-        17 => group_of(CHARGES_DRAWN, Shape::Spelled, many(slots)),
-        18 => group_of(CHARGED, Shape::Roster, wrapping_sub_usize(slots, 1)),
-        19 => group_of(CHARGE_EDGES, Shape::Roster, 4),
-        20 => group_of(PREPARED, Shape::Alike, fewer(45, slots)),
-        21 => group_of(PREPARED, Shape::Ends, fewer(70, slots)),
-        22 => group_of(PREPARED, Shape::Letters, fewer(70, slots)),
-        23 => group_of(PREPARED, Shape::Four, fewer(70, slots)),
-        _ => group_of(PREPARED, Shape::Roster, wrapping_add_usize(slots, 48)),
+    // How many calls it makes.
+    pub fn calls(self) -> usize {
+        let labels = self.labels % 801;
+        match self.way {
+            Way::Case => 2 * labels + 17,
+            Way::InOrder | Way::Reversed | Way::Stepped => 3 * labels + 4,
+            Way::Drawn => (40 * labels).min(8000),
+            Way::Prepared => labels + 12,
+            Way::Respelled => 2 * labels + 8,
+            Way::ChargesDrawn => (40 * labels).min(4000),
+            Way::Charged => 4 * labels,
+            Way::ChargeEdges => labels + edges::CALLS,
+        }
     }
-}
 
-// Whether a group makes calls that the pairing page's index does not have.
-pub fn is_hubs(plan: Plan) -> bool {
-    plan.way >= CHARGES_DRAWN
-}
-
-fn group_of(way: usize, shape: Shape, labels: usize) -> Plan {
-    Plan {
-        way: way,
-        shape: shape,
-        labels: labels,
+    // Call `i`, with a number of its generator.
+    pub fn call(self, i: usize, seed: u64) -> Planned {
+        match self.way {
+            Way::Case => case_call(self.labels, i),
+            Way::InOrder | Way::Reversed | Way::Stepped => self.swept(i),
+            Way::Drawn => self.drawn(i, seed),
+            Way::Prepared => self.prepared(i),
+            Way::Respelled => respelled(self.labels, i),
+            Way::ChargesDrawn => charging::or_charge(self.drawn(i, seed), seed),
+            Way::Charged => charging::charged(self.labels, i),
+            Way::ChargeEdges => charging::at_edges(self.labels, i),
+        }
     }
-}
 
-// More labels than there are slots: 800 for the hub, 50 for the page.
-fn surplus(slots: usize) -> usize {
-    slots % 513 * 25 / 16
-}
-
-// Four times as many labels, where several are one in different spellings; 800 at most.
-fn many(slots: usize) -> usize {
-    (slots % 513 * 25 / 4).min(800)
-}
-
-// So many labels, or else two fewer than there are slots.
-fn fewer(labels: usize, slots: usize) -> usize {
-    labels.min(slots.wrapping_sub(2))
-}
-
-// How many calls a group makes.
-pub fn calls(plan: Plan) -> usize {
-    let labels = plan.labels % 801;
-    let way = plan.way;
-    match way {
-        CASE => 2 * labels + 17,
-        DRAWN => (40 * labels).min(8000),
-        PREPARED => labels + 12,
-        RESPELLED => 2 * labels + 8,
-        CHARGES_DRAWN => (40 * labels).min(4000),
-        CHARGED => 4 * labels,
-        CHARGE_EDGES => labels + edges::CALLS,
-        _ => 3 * labels + 4,
+    // A call of which the judges say what is to come.
+    fn judged(self, call: Call, label: usize) -> Planned {
+        Planned::new(call, self.shape, label, Due::Judged)
     }
-}
 
-// Call `i` of a group, with a number of its generator.
-pub fn call(plan: Plan, i: usize, seed: u64) -> Planned {
-    let way = plan.way;
-    match way {
-        CASE => case_call(plan.labels, i),
-        DRAWN => drawn(plan, i, seed),
-        PREPARED => prepared(plan, i),
-        RESPELLED => respelled(plan.labels, i),
-        CHARGES_DRAWN => charging::or_charge(drawn(plan, i, seed), seed),
-        CHARGED => charging::charged(plan.labels, i),
-        CHARGE_EDGES => charging::at_edges(plan.labels, i),
-        _ => swept(plan, i),
+    fn swept(self, i: usize) -> Planned {
+        let k = i.checked_rem(self.labels).unwrap_or(0);
+        let label = self.swept_label(k);
+        match i.checked_div(self.labels).unwrap_or(0) {
+            0 => self.judged(Call::Insert, label),
+            1 => self.judged(Call::Search, label),
+            2 => self.judged(Call::Delete, label),
+            _ => self.emptied(k),
+        }
     }
-}
 
-fn swept(plan: Plan, i: usize) -> Planned {
-    let k = i.checked_rem(plan.labels).unwrap_or(0);
-    let label = swept_label(plan, k);
-    match i.checked_div(plan.labels).unwrap_or(0) {
-        0 => judged(Call::Insert, plan.shape, label),
-        1 => judged(Call::Search, plan.shape, label),
-        2 => judged(Call::Delete, plan.shape, label),
-        _ => emptied(plan.shape, k),
+    // On a table filled and emptied: a search; then one label is inserted alone, and it and another are searched.
+    fn emptied(self, i: usize) -> Planned {
+        match i {
+            1 => self.judged(Call::Insert, 0),
+            3 => self.judged(Call::Search, 1),
+            _ => self.judged(Call::Search, 0),
+        }
     }
-}
 
-// On a table filled and emptied: a search; then one label is inserted alone, and it and another are searched.
-fn emptied(shape: Shape, i: usize) -> Planned {
-    match i {
-        1 => judged(Call::Insert, shape, 0),
-        3 => judged(Call::Search, shape, 1),
-        _ => judged(Call::Search, shape, 0),
+    // The label that comes after `i` others.
+    fn swept_label(self, i: usize) -> usize {
+        match self.way {
+            Way::InOrder => i,
+            Way::Reversed => self.around(self.labels.wrapping_sub(i)),
+            _ => self.around(i.wrapping_mul(333)),
+        }
     }
-}
 
-// The label that comes after `i` others.
-fn swept_label(plan: Plan, i: usize) -> usize {
-    let labels = plan.labels;
-    let way = plan.way;
-    match way {
-        IN_ORDER => i,
-        REVERSED => labels.wrapping_sub(i).checked_rem(labels).unwrap_or(0),
-        _ => stepped(333, i, labels),
+    // The label that a number reaches around those of the group.
+    fn around(self, number: usize) -> usize {
+        number.checked_rem(self.labels).unwrap_or(0)
     }
-}
 
-// The number that so many steps reach around the numbers of so many labels.
-fn stepped(step: usize, times: usize, labels: usize) -> usize {
-    let mut k = 0usize;
-    for i in 0..times {
-        k = k.wrapping_add(step).checked_rem(labels).unwrap_or(0);
+    // Mostly inserts, for as many calls as there are labels and an eighth more; then for as many mostly deletes; and so
+    // on.
+    fn drawn(self, i: usize, seed: u64) -> Planned {
+        let label = numbers::below(numbers::next(seed), self.labels);
+        let turn = self.labels.wrapping_add(self.labels / 8);
+        let fills = i.checked_div(turn).unwrap_or(0) % 2 == 0;
+        let call = match numbers::below(seed, 10) {
+            0..=1 => Call::Search,
+            2..=7 if fills => Call::Insert,
+            2..=7 => Call::Delete,
+            _ if fills => Call::Delete,
+            _ => Call::Insert,
+        };
+        self.judged(call, label)
     }
-    k
-}
 
-// Mostly inserts, for as many calls as there are labels and an eighth more; then for as many mostly deletes; and so on.
-fn drawn(plan: Plan, i: usize, seed: u64) -> Planned {
-    let labels = plan.labels;
-    let label = numbers::below(numbers::next(seed), labels);
-    let phase = i.checked_div(labels.wrapping_add(labels / 8)).unwrap_or(0);
-    judged(drawn_call(seed, phase % 2), plan.shape, label)
-}
-
-fn drawn_call(seed: u64, phase: usize) -> Call {
-    let n = numbers::below(seed, 10);
-    if n < 2 {
-        return Call::Search;
+    fn prepared(self, i: usize) -> Planned {
+        match i.checked_sub(self.labels) {
+            None => self.judged(Call::Insert, i),
+            Some(k) => self.judged(Call::Delete, self.around(k.wrapping_mul(5))),
+        }
     }
-    if (n < 8) == (phase == 0) {
-        return Call::Insert;
-    }
-    Call::Delete
-}
-
-fn prepared(plan: Plan, i: usize) -> Planned {
-    let inserts = plan.labels;
-    if i < inserts {
-        return judged(Call::Insert, plan.shape, i);
-    }
-    judged(Call::Delete, plan.shape, stepped(5, i - inserts, inserts))
 }
 
 // The lengths of a label: the longest, one more and none. Then a roster until the table is full, two labels more, each
 // held one again, and the lengths again.
 fn case_call(slots: usize, i: usize) -> Planned {
-    if i < 8 {
-        return lengths_call(i, 0);
-    }
-    filling(slots, i - 8)
-}
-
-fn filling(slots: usize, i: usize) -> Planned {
-    if i < slots {
-        return member(i, 0);
-    }
-    full(slots, i - slots)
-}
-
-// Call `i` on a full table.
-fn full(slots: usize, i: usize) -> Planned {
-    if i < 2 {
-        return member(wrapping_add_usize(slots, i), 9);
-    }
-    if i - 2 < slots {
-        return member(i - 2, 7);
-    }
-    lengths_call(i - 2 - slots, 9)
-}
-
-fn member(label: usize, refusal: usize) -> Planned {
-    named(Call::Insert, Shape::Roster, label, refusal)
-}
-
-// The longest label is inserted or refused by a number, one longer and none are refused by 4 and 3, and the first is
-// deleted.
-fn lengths_call(i: usize, refusal: usize) -> Planned {
-    let call = match i {
-        0..=2 => Call::Insert,
-        3..=4 => Call::Search,
-        _ => Call::Delete,
+    let Some(i) = i.checked_sub(8) else {
+        return lengths_call(i, Due::Done);
     };
-    longest(call, longest_label(i), refusal)
-}
-
-fn longest_label(i: usize) -> usize {
-    match i {
-        0 => 0,
-        1 => 1,
-        3 => 1,
-        5 => 1,
-        7 => 0,
-        _ => 2,
+    let Some(k) = i.checked_sub(slots) else {
+        return member(i, Due::Done);
+    };
+    match k.checked_sub(2) {
+        None => member(slots.wrapping_add(k), Due::Refused(9)),
+        Some(held) if held < slots => member(held, Due::Refused(7)),
+        Some(more) => lengths_call(more.wrapping_sub(slots), Due::Refused(9)),
     }
 }
 
-fn longest(call: Call, label: usize, refusal: usize) -> Planned {
-    let number = match label {
-        0 => refusal,
-        1 => 4,
-        _ => 3,
+fn member(label: usize, due: Due) -> Planned {
+    Planned::new(Call::Insert, Shape::Roster, label, due)
+}
+
+// Calls on the longest label, 0, on one that is longer, 1, and on none, 2.
+const LENGTHS: [(Call, usize); 8] = [
+    (Call::Insert, 0),
+    (Call::Insert, 1),
+    (Call::Insert, 2),
+    (Call::Search, 1),
+    (Call::Search, 2),
+    (Call::Delete, 1),
+    (Call::Delete, 2),
+    (Call::Delete, 0),
+];
+
+// The longest label is to be inserted or refused, one longer and none are refused by 4 and 3, and the first is deleted.
+fn lengths_call(i: usize, longest: Due) -> Planned {
+    let (call, label) = LENGTHS[i % LENGTHS.len()];
+    let due = match label {
+        0 => longest,
+        1 => Due::Refused(4),
+        _ => Due::Refused(3),
     };
-    named(call, Shape::Longest, label, number)
+    Planned::new(call, Shape::Longest, label, due)
 }
 
 // Names in small letters until the table is full, each again in another spelling, and then some calls on one of them.
 fn respelled(slots: usize, i: usize) -> Planned {
-    if i < slots {
-        return name(Call::Insert, i, 0, 0);
+    let Some(again) = i.checked_sub(slots) else {
+        return name(Call::Insert, i, 0, Due::Done);
+    };
+    match again.checked_sub(slots) {
+        None => name(Call::Insert, again, again % 3 + 1, Due::Refused(7)),
+        Some(k) => renewed(slots, k),
     }
-    let again = i - slots;
-    if again < slots {
-        return name(Call::Insert, again, again % 3 + 1, 7);
-    }
-    renewed(slots, again - slots)
 }
 
 // On a full table: a new name is refused; one held is deleted by another spelling, and inserted anew in a third, in
@@ -284,23 +254,19 @@ fn respelled(slots: usize, i: usize) -> Planned {
 fn renewed(slots: usize, i: usize) -> Planned {
     let held = slots / 2;
     match i {
-        0 => name(Call::Insert, slots, 1, 9),
-        1 => name(Call::Search, held, 2, 0),
-        2 => name(Call::Delete, held, 1, 0),
-        3 => name(Call::Delete, held, 0, 8),
-        4 => name(Call::Insert, held, 3, 0),
-        5 => name(Call::Insert, held, 0, 7),
-        6 => name(Call::Search, held, 1, 0),
-        _ => name(Call::Insert, slots, 0, 9),
+        0 => name(Call::Insert, slots, 1, Due::Refused(9)),
+        1 => name(Call::Search, held, 2, Due::Done),
+        2 => name(Call::Delete, held, 1, Due::Done),
+        3 => name(Call::Delete, held, 0, Due::Refused(8)),
+        4 => name(Call::Insert, held, 3, Due::Done),
+        5 => name(Call::Insert, held, 0, Due::Refused(7)),
+        6 => name(Call::Search, held, 1, Due::Done),
+        _ => name(Call::Insert, slots, 0, Due::Refused(9)),
     }
 }
 
 // A call on a name in a spelling.
-fn name(call: Call, number: usize, spelling: usize, refusal: usize) -> Planned {
-    named(
-        call,
-        Shape::Spelled,
-        wrapping_add_usize(4 * (number % 513), spelling),
-        refusal,
-    )
+fn name(call: Call, number: usize, spelling: usize, due: Due) -> Planned {
+    let label = spelling.wrapping_add(4 * (number % 513));
+    Planned::new(call, Shape::Spelled, label, due)
 }

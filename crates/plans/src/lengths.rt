@@ -2,105 +2,97 @@
 use images::memory::Image;
 use images::outputs;
 use images::sizes::Sizes;
-use std::num::{wrapping_add_usize, wrapping_sub_usize};
 
-// The pairs of a table's and a store's length: each of one less, the index's own and one more with each; then none of
-// one of the two, and the other index's of one of the two; and at last this memory lent to the other index.
-pub const PAIRS: usize = 14;
+// How much is lent: one less than the index's own length, as much, one more; nothing; as much as the other index has.
+#[derive(Clone, Copy, Debug, PartialEq, Eq)]
+pub enum Length {
+    Less,
+    Own,
+    More,
+    Nothing,
+    Others,
+}
 
-const ALL_TO_OTHER: usize = 13;
+// A pair of a table's and a store's length; or all this memory lent to the other index.
+#[derive(Clone, Copy, Debug, PartialEq, Eq)]
+pub enum Pair {
+    Of(Length, Length),
+    AllToOther,
+}
 
-// How many are lent: one less than the index's own length, as many, one more; none; as many as the other index has.
-const OWN: usize = 1;
+impl Pair {
+    // Each of one less, the index's own and one more with each; then none of one of the two, and the other index's of
+    // one of the two.
+    pub const ALL: [Pair; 14] = [
+        Pair::Of(Length::Less, Length::Less),
+        Pair::Of(Length::Less, Length::Own),
+        Pair::Of(Length::Less, Length::More),
+        Pair::Of(Length::Own, Length::Less),
+        Pair::Of(Length::Own, Length::Own),
+        Pair::Of(Length::Own, Length::More),
+        Pair::Of(Length::More, Length::Less),
+        Pair::Of(Length::More, Length::Own),
+        Pair::Of(Length::More, Length::More),
+        Pair::Of(Length::Nothing, Length::Own),
+        Pair::Of(Length::Own, Length::Nothing),
+        Pair::Of(Length::Others, Length::Own),
+        Pair::Of(Length::Own, Length::Others),
+        Pair::AllToOther,
+    ];
 
-const NONE: usize = 3;
-
-const OTHERS: usize = 4;
-
-// The lengths of a label.
-pub const LABELS: usize = 3;
-
-// The lists' lengths.
-pub const ROOMS: usize = 4;
-
-// The outputs' lengths, and how many of them are taken in turn.
-pub const OUTPUTS: usize = 5;
-
-pub const TURNS: usize = 4;
-
-// Lends memory at a pair of lengths.
-pub fn lend(image: &mut Image, pair: usize) {
-    let other = other_than(image);
-    if pair == ALL_TO_OTHER {
-        image.sizes = other;
-    } else {
-        image.lent.words = lent_as(image.lent.words, words_lent(pair), other.words());
-        image.lent.bytes = lent_as(image.lent.bytes, bytes_lent(pair), other.bytes());
+    // Lends memory at these lengths.
+    pub fn lend(self, image: &mut Image) {
+        let other = if image.is_page() {
+            Sizes::HUB
+        } else {
+            Sizes::PAGE
+        };
+        match self {
+            Pair::AllToOther => image.sizes = other,
+            Pair::Of(table, store) => {
+                image.lent.words = table.of(image.lent.words, other.words());
+                image.lent.bytes = store.of(image.lent.bytes, other.bytes());
+            }
+        }
     }
 }
 
-// The sizes of the index that is not called.
-fn other_than(image: &Image) -> Sizes {
-    if image.is_page() {
-        return Sizes::HUB;
-    }
-    Sizes::PAGE
-}
-
-fn lent_as(own: usize, how: usize, others: usize) -> usize {
-    match how {
-        NONE => 0,
-        OTHERS => others,
-        _ => wrapping_sub_usize(wrapping_add_usize(own, how), 1),
-    }
-}
-
-fn words_lent(pair: usize) -> usize {
-    match pair {
-        9 => NONE,
-        10 => OWN,
-        11 => OTHERS,
-        12 => OWN,
-        _ => pair / 3,
-    }
-}
-
-fn bytes_lent(pair: usize) -> usize {
-    match pair {
-        9 => OWN,
-        10 => NONE,
-        11 => OWN,
-        12 => OTHERS,
-        _ => pair % 3,
+impl Length {
+    fn of(self, own: usize, others: usize) -> usize {
+        match self {
+            Length::Less => own.wrapping_sub(1),
+            Length::Own => own,
+            Length::More => own.wrapping_add(1),
+            Length::Nothing => 0,
+            Length::Others => others,
+        }
     }
 }
 
 // The bytes of a label, where it may have so many: none, one, one too many.
-pub fn label(i: usize, width: usize) -> usize {
-    match i {
-        0 => 0,
-        1 => 1,
-        _ => wrapping_add_usize(width, 1),
-    }
+pub fn labels(width: usize) -> [usize; 3] {
+    [0, 1, width.wrapping_add(1)]
 }
 
 // The words of a list: none, one less than the slots held, as many, and one more.
-pub fn room(i: usize, held: usize) -> usize {
-    match i {
-        0 => 0,
-        1 => wrapping_sub_usize(held, 1),
-        2 => held,
-        _ => wrapping_add_usize(held, 1),
-    }
+pub fn rooms(held: usize) -> [usize; 4] {
+    [0, held.wrapping_sub(1), held, held.wrapping_add(1)]
 }
 
 // The bytes of an output, where the file has so many: as many, one less, one more, as many as there are, none.
-pub fn output(i: usize, file: usize) -> usize {
-    match i {
-        0 => file,
-        1 => wrapping_sub_usize(file, 1),
-        2 => wrapping_add_usize(file, 1),
-        3 => outputs::ALL,
-        _ => 0,
-    }
+pub fn outputs(file: usize) -> [usize; 5] {
+    [
+        file,
+        file.wrapping_sub(1),
+        file.wrapping_add(1),
+        outputs::ALL,
+        0,
+    ]
+}
+
+// How many of them are taken in turn.
+pub const TURNS: usize = 4;
+
+pub fn output_in_turn(turn: usize, file: usize) -> usize {
+    outputs(file)[turn % TURNS]
 }

@@ -2,41 +2,60 @@
 use samples::calls::Call;
 use samples::shapes::Shape;
 
-// Which call, on which label of which shape, with which charge where it sets one, and the refusal's number that it is
-// to have; `ANY_REFUSAL` where the judges alone say it.
-#[derive(Clone, Copy)]
+// What is to come of a call: what the judges alone say, no refusal, or the refusal with this number.
+#[derive(Clone, Copy, Debug, PartialEq, Eq)]
+pub enum Due {
+    Judged,
+    Done,
+    Refused(usize),
+}
+
+impl Due {
+    // Whether an answer with a refusal's number, 0 for none, is the one that is due.
+    pub fn allows(self, refusal: usize) -> bool {
+        match self {
+            Due::Judged => true,
+            Due::Done => refusal == 0,
+            Due::Refused(number) => refusal == number,
+        }
+    }
+
+    // The number that stands for it where one is mixed.
+    pub fn number(self) -> usize {
+        match self {
+            Due::Judged => 12,
+            Due::Done => 0,
+            Due::Refused(number) => number,
+        }
+    }
+}
+
+// Which call, on which label of which shape, with which charge where it sets one, and what is to come of it.
+#[derive(Clone, Copy, Debug)]
 pub struct Planned {
     pub call: Call,
     pub shape: Shape,
     pub label: usize,
-    pub charge: usize,
-    pub refusal: usize,
+    pub charge: Option<usize>,
+    pub due: Due,
 }
 
-pub const ANY_REFUSAL: usize = 12;
-
-pub fn judged(call: Call, shape: Shape, label: usize) -> Planned {
-    named(call, shape, label, ANY_REFUSAL)
-}
-
-// A call whose refusal has a number; 0 where it is not refused.
-pub fn named(call: Call, shape: Shape, label: usize, refusal: usize) -> Planned {
-    Planned {
-        call: call,
-        shape: shape,
-        label: label,
-        charge: 0,
-        refusal: refusal,
+impl Planned {
+    pub fn new(call: Call, shape: Shape, label: usize, due: Due) -> Planned {
+        Planned {
+            call,
+            shape,
+            label,
+            charge: None,
+            due,
+        }
     }
-}
 
-// A call that sets a charge, with such a number.
-pub fn charge(shape: Shape, label: usize, charge: usize, refusal: usize) -> Planned {
-    Planned {
-        call: Call::SetCharge,
-        shape: shape,
-        label: label,
-        charge: charge,
-        refusal: refusal,
+    // A call that sets a charge.
+    pub fn charge(shape: Shape, label: usize, charge: usize, due: Due) -> Planned {
+        Planned {
+            charge: Some(charge),
+            ..Planned::new(Call::SetCharge, shape, label, due)
+        }
     }
 }
