@@ -39,6 +39,10 @@ impl Front<'_> {
         self.len = at.wrapping_add(1);
     }
 
+    pub fn last(&self) -> Option<u8> {
+        self.output.get(self.len.wrapping_sub(1)).copied()
+    }
+
     // So many of the last bytes are no part of it.
     pub fn cut(&mut self, bytes: usize) {
         self.len = self.len.wrapping_sub(bytes);

@@ -1,6 +1,7 @@
 // The charges at the edges, set on memory that is sound and on memory that is refused.
 use crate::planned::{Due, Planned};
 use images::memory::{Entry, Head, Image};
+use images::refusals::Refusal;
 use samples::charges::{EDGES, RIGHT_EDGES};
 use samples::shapes::Shape;
 
@@ -72,9 +73,9 @@ impl Memory {
     fn due(self, given: Given, is_right: bool) -> Due {
         match self {
             Memory::Sound => given.due(is_right, given.held_due()),
-            Memory::Unsound => given.due(is_right, Due::Refused(6)),
-            Memory::StoreLess => Due::Refused(2),
-            Memory::TableLess | Memory::BothLess => Due::Refused(1),
+            Memory::Unsound => given.due(is_right, Due::Refused(Refusal::NotSound)),
+            Memory::StoreLess => Due::Refused(Refusal::WrongStore),
+            Memory::TableLess | Memory::BothLess => Due::Refused(Refusal::WrongTable),
         }
     }
 }
@@ -92,16 +93,16 @@ impl Given {
     // By the label's length, then the charge; or another.
     fn due(self, is_right: bool, other: Due) -> Due {
         match self {
-            Given::Longer => Due::Refused(4),
-            Given::Empty => Due::Refused(3),
+            Given::Longer => Due::Refused(Refusal::LongLabel),
+            Given::Empty => Due::Refused(Refusal::EmptyLabel),
             Given::Held | Given::Absent if is_right => other,
-            Given::Held | Given::Absent => Due::Refused(24),
+            Given::Held | Given::Absent => Due::Refused(Refusal::WrongCharge),
         }
     }
 
     fn held_due(self) -> Due {
         match self {
-            Given::Absent => Due::Refused(8),
+            Given::Absent => Due::Refused(Refusal::NotHeld),
             _ => Due::Done,
         }
     }

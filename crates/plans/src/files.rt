@@ -39,6 +39,9 @@ const VALUES: [(u16, usize); 6] = [
 // Counts of labels of 10 bytes with value 0, and the bytes of their file: 12 for each, and one or two before them.
 const COUNTS: [(usize, usize); 3] = [(127, 1525), (128, 1538), (129, 1550)];
 
+// The most tables that a group has.
+pub const TABLES: usize = 6;
+
 impl Group {
     pub const ALL: [Group; 6] = [
         Group::Empty,

@@ -1,6 +1,7 @@
 // The groups of calls on sound tables: which calls they make.
 use crate::planned::{Due, Planned};
 use crate::{charging, edges};
+use images::refusals::Refusal;
 use samples::calls::Call;
 use samples::numbers;
 use samples::shapes::Shape;
@@ -205,9 +206,9 @@ fn case_call(slots: usize, i: usize) -> Planned {
         return member(i, Due::Done);
     };
     match k.checked_sub(2) {
-        None => member(slots.wrapping_add(k), Due::Refused(9)),
-        Some(held) if held < slots => member(held, Due::Refused(7)),
-        Some(more) => lengths_call(more.wrapping_sub(slots), Due::Refused(9)),
+        None => member(slots.wrapping_add(k), Due::Refused(Refusal::Full)),
+        Some(held) if held < slots => member(held, Due::Refused(Refusal::AlreadyHeld)),
+        Some(more) => lengths_call(more.wrapping_sub(slots), Due::Refused(Refusal::Full)),
     }
 }
 
@@ -232,8 +233,8 @@ fn lengths_call(i: usize, longest: Due) -> Planned {
     let (call, label) = LENGTHS[i % LENGTHS.len()];
     let due = match label {
         0 => longest,
-        1 => Due::Refused(4),
-        _ => Due::Refused(3),
+        1 => Due::Refused(Refusal::LongLabel),
+        _ => Due::Refused(Refusal::EmptyLabel),
     };
     Planned::new(call, Shape::Longest, label, due)
 }
@@ -244,7 +245,12 @@ fn respelled(slots: usize, i: usize) -> Planned {
         return name(Call::Insert, i, 0, Due::Done);
     };
     match again.checked_sub(slots) {
-        None => name(Call::Insert, again, again % 3 + 1, Due::Refused(7)),
+        None => name(
+            Call::Insert,
+            again,
+            again % 3 + 1,
+            Due::Refused(Refusal::AlreadyHeld),
+        ),
         Some(k) => renewed(slots, k),
     }
 }
@@ -254,14 +260,14 @@ fn respelled(slots: usize, i: usize) -> Planned {
 fn renewed(slots: usize, i: usize) -> Planned {
     let held = slots / 2;
     match i {
-        0 => name(Call::Insert, slots, 1, Due::Refused(9)),
+        0 => name(Call::Insert, slots, 1, Due::Refused(Refusal::Full)),
         1 => name(Call::Search, held, 2, Due::Done),
         2 => name(Call::Delete, held, 1, Due::Done),
-        3 => name(Call::Delete, held, 0, Due::Refused(8)),
+        3 => name(Call::Delete, held, 0, Due::Refused(Refusal::NotHeld)),
         4 => name(Call::Insert, held, 3, Due::Done),
-        5 => name(Call::Insert, held, 0, Due::Refused(7)),
+        5 => name(Call::Insert, held, 0, Due::Refused(Refusal::AlreadyHeld)),
         6 => name(Call::Search, held, 1, Due::Done),
-        _ => name(Call::Insert, slots, 0, Due::Refused(9)),
+        _ => name(Call::Insert, slots, 0, Due::Refused(Refusal::Full)),
     }
 }
 

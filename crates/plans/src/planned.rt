@@ -1,22 +1,22 @@
 // A call that a group makes.
+use images::refusals::Refusal;
 use samples::calls::Call;
 use samples::shapes::Shape;
 
-// What is to come of a call: what the judges alone say, no refusal, or the refusal with this number.
+// What is to come of a call: what the judges alone say, no refusal, or this refusal.
 #[derive(Clone, Copy, Debug, PartialEq, Eq)]
 pub enum Due {
     Judged,
     Done,
-    Refused(usize),
+    Refused(Refusal),
 }
 
 impl Due {
-    // Whether an answer with a refusal's number, 0 for none, is the one that is due.
-    pub fn allows(self, refusal: usize) -> bool {
+    pub fn allows(self, refusal: Option<Refusal>) -> bool {
         match self {
             Due::Judged => true,
-            Due::Done => refusal == 0,
-            Due::Refused(number) => refusal == number,
+            Due::Done => refusal.is_none(),
+            Due::Refused(due) => refusal == Some(due),
         }
     }
 
@@ -25,7 +25,7 @@ impl Due {
         match self {
             Due::Judged => 12,
             Due::Done => 0,
-            Due::Refused(number) => number,
+            Due::Refused(refusal) => refusal.number(),
         }
     }
 }

@@ -1,6 +1,7 @@
 // Files of rosters, with more labels or fewer than they say.
 use crate::planned::Due;
 use images::outputs::Front;
+use images::refusals::Refusal;
 use samples::shapes::Shape;
 
 // A roster's file: the number that stands before its labels, the labels, and how many of its last bytes are cut; and
@@ -26,15 +27,15 @@ fn straps(count: usize, labels: usize, cut: usize, due: Due) -> Roster {
 pub fn roster_of(i: usize) -> Option<Roster> {
     Some(match i {
         0 => straps(512, 512, 0, Due::Done),
-        1 => straps(512, 512, 1, Due::Refused(18)),
-        2 => straps(512, 511, 0, Due::Refused(18)),
-        3 => straps(511, 512, 0, Due::Refused(20)),
-        4 => straps(513, 513, 0, Due::Refused(18)),
-        5 => straps(513, 512, 0, Due::Refused(18)),
-        6 => straps(512, 513, 0, Due::Refused(20)),
+        1 => straps(512, 512, 1, Due::Refused(Refusal::BrokenFile)),
+        2 => straps(512, 511, 0, Due::Refused(Refusal::BrokenFile)),
+        3 => straps(511, 512, 0, Due::Refused(Refusal::BytesAfter)),
+        4 => straps(513, 513, 0, Due::Refused(Refusal::BrokenFile)),
+        5 => straps(513, 512, 0, Due::Refused(Refusal::BrokenFile)),
+        6 => straps(512, 513, 0, Due::Refused(Refusal::BytesAfter)),
         7 => straps(128, 128, 0, Due::Done),
-        8 => straps(127, 128, 0, Due::Refused(20)),
-        9 => straps(129, 128, 0, Due::Refused(18)),
+        8 => straps(127, 128, 0, Due::Refused(Refusal::BytesAfter)),
+        9 => straps(129, 128, 0, Due::Refused(Refusal::BrokenFile)),
         10 => straps(1, 1, 0, Due::Done),
         _ => return None,
     })

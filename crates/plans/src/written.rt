@@ -2,6 +2,7 @@
 use crate::planned::Due;
 use crate::{hexes, rosters};
 use images::outputs::{Front, Output};
+use images::refusals::Refusal;
 
 // The groups: files that are taken; a broken count, length, label or value; numbers of far too many groups; labels that
 // are not above those before; such labels whose own length, bytes or value is broken, or that something broken follows;
@@ -74,9 +75,9 @@ impl Group {
     fn due(self) -> Due {
         match self {
             Group::Taken | Group::Rosters => Due::Done,
-            Group::Order | Group::OrderFirst => Due::Refused(19),
-            Group::Ends => Due::Refused(20),
-            _ => Due::Refused(18),
+            Group::Order | Group::OrderFirst => Due::Refused(Refusal::NotAscending),
+            Group::Ends => Due::Refused(Refusal::BytesAfter),
+            _ => Due::Refused(Refusal::BrokenFile),
         }
     }
 

@@ -4,10 +4,12 @@ use crate::{starts, takings, tallies};
 use images::memory::Image;
 use images::outputs;
 use plainmap::PlainMap;
-use plans::{changes, lengths};
+use plans::changes::Kind;
+use plans::lengths::Pair;
 use reports::Report;
 use samples::numbers;
-use sheets::written;
+use sheets::written::Group;
+use sheets::{Sheet, written};
 use std::io;
 use std::io::Stdout;
 
@@ -16,18 +18,20 @@ const TIMES: usize = 5;
 
 // Takes texts on a table that is changed in each way, where it is not sound then.
 pub fn run(out: Stdout, image: &mut Image, map: &mut PlainMap) -> io::Result<()> {
-    starts::prepare(image, map, written::NOT_SOUND);
+    starts::prepare(image, map, Group::NotSound);
     let mut report = Report::<Tally>::new(out);
     let mut seed = numbers::SEED;
-    for k in 0..TIMES * changes::KINDS {
-        seed = numbers::next(seed);
-        let mut copy = *image;
-        changes::make(image, &mut copy, k / TIMES, seed);
-        report.tally.changes.add(1);
-        if audits::sound::is_sound(&copy) {
-            report.tally.sound.add(1);
-        } else {
-            take_all(&mut report, &copy, map, false)?;
+    for kind in Kind::ALL {
+        for _ in 0..TIMES {
+            seed = numbers::next(seed);
+            let mut copy = *image;
+            kind.make(image, &mut copy, seed);
+            report.tally.changes.add(1);
+            if audits::sound::is_sound(&copy) {
+                report.tally.sound.add(1);
+            } else {
+                take_all(&mut report, &copy, map, false)?;
+            }
         }
     }
     tallies::print(&mut report, "damaged")
@@ -41,12 +45,13 @@ fn take_all(
     other: bool,
 ) -> io::Result<()> {
     let mut text = outputs::fresh();
-    for i in 1..32 {
-        let mut sheet = written::write(&mut text, written::NOT_SOUND, i, 0);
-        if other {
-            sheet.refusal = sheets::ANY;
-        }
-        if sheet.bytes != sheets::NO_TEXT {
+    for i in 0..written::TEXTS {
+        if let Some(sheet) = Group::NotSound.write(&mut text, i, 0) {
+            let sheet = if other {
+                Sheet::any(sheet.bytes)
+            } else {
+                sheet
+            };
             takings::tried(report, image, map, &text, sheet)?;
         }
     }
@@ -55,11 +60,11 @@ fn take_all(
 
 // Takes the same texts on memory of each pair of lengths.
 pub fn run_lent(out: Stdout, image: &mut Image, map: &mut PlainMap) -> io::Result<()> {
-    starts::prepare(image, map, written::NOT_SOUND);
+    starts::prepare(image, map, Group::NotSound);
     let mut report = Report::<Tally>::new(out);
-    for pair in 0..lengths::PAIRS {
+    for pair in Pair::ALL {
         let mut copy = *image;
-        lengths::lend(&mut copy, pair);
+        pair.lend(&mut copy);
         if !copy.is_page() {
             report.tally.changes.add(1);
             take_all(&mut report, &copy, map, true)?;

@@ -8,110 +8,126 @@ use plainmap::PlainMap;
 use plans::bytes;
 use reports::Report;
 use samples::numbers;
-use sheets::{drawn, names, written};
+use sheets::names::{Step, Way};
+use sheets::written::Group;
+use sheets::{Sheet, drawn, names, written};
+use std::io;
 use std::io::Stdout;
-use std::{io, str};
 
-// The most texts of a group, the small texts, and the bytes that each of these has less than.
-const TEXTS: usize = 64;
-
-const SMALL_TEXTS: usize = 7;
-
+// The bytes that a small text has less than.
 const SMALL: usize = 100;
 
-// Takes each text of a group that is written out, with each of so many bytes at its place.
+// Takes each text of a group that is written out, with each byte up to one at its place.
 pub fn run_written(
     out: Stdout,
     image: &mut Image,
     map: &mut PlainMap,
-    group: usize,
-    bytes: usize,
+    group: Group,
+    last: u8,
 ) -> io::Result<()> {
     starts::prepare(image, map, group);
     let mut report = Report::new(out);
     let mut text = outputs::fresh();
-    for i in 1..=TEXTS {
-        for byte in 0..bytes {
-            let sheet = written::write(&mut text, group, i, byte);
-            if sheet.bytes != sheets::NO_TEXT {
+    for i in 0..written::TEXTS {
+        for byte in 0..=last {
+            if let Some(sheet) = group.write(&mut text, i, byte) {
                 takings::tried(&mut report, image, map, &text, sheet)?;
             }
         }
     }
-    let title = written::write(&mut text, group, 0, 0);
-    let title = text.get(..title.bytes).unwrap_or(b"");
-    tallies::print(&mut report, str::from_utf8(title).unwrap_or(""))
+    tallies::print(&mut report, group.title())
+}
+
+// Writes a small text; its bytes.
+fn write_small(text: &mut Output, i: usize) -> usize {
+    match Group::Small.write(text, i, 0) {
+        Some(sheet) if sheet.bytes < SMALL => sheet.bytes,
+        _ => 0,
+    }
 }
 
 // Takes small texts, cut short at each byte.
 pub fn run_cut(out: Stdout, image: &mut Image, map: &mut PlainMap) -> io::Result<()> {
-    starts::prepare(image, map, written::SMALL);
+    starts::prepare(image, map, Group::Small);
     let mut report = Report::new(out);
     let mut text = outputs::fresh();
-    for i in 1..=SMALL_TEXTS {
-        let n = written::write(&mut text, written::SMALL, i, 0).bytes;
-        if n < SMALL {
-            for end in 0..n {
-                takings::tried(&mut report, image, map, &text, sheets::any(end))?;
-            }
+    for i in 0..written::TEXTS {
+        for end in 0..write_small(&mut text, i) {
+            takings::tried(&mut report, image, map, &text, Sheet::any(end))?;
         }
     }
     tallies::print(&mut report, "cut short")
 }
 
-// The ways in which a byte is changed.
-const WAYS: usize = 10;
-
-// Takes small texts, with each byte changed in each way.
+// Takes small texts, with each byte changed in each way, and to each of those that matter.
 pub fn run_changed(out: Stdout, image: &mut Image, map: &mut PlainMap) -> io::Result<()> {
-    starts::prepare(image, map, written::SMALL);
+    starts::prepare(image, map, Group::Small);
     let mut report = Report::new(out);
     let mut text = outputs::fresh();
-    for i in 1..=SMALL_TEXTS {
-        let n = written::write(&mut text, written::SMALL, i, 0).bytes;
-        if n < SMALL {
-            for k in 0..n * WAYS {
-                let copy = changed(&text, k / WAYS, k % WAYS);
-                takings::tried(&mut report, image, map, &copy, sheets::any(n))?;
+    for i in 0..written::TEXTS {
+        let n = write_small(&mut text, i);
+        for at in 0..n {
+            for way in bytes::Way::ALL {
+                let byte = way.changed(byte_at(&text, at), at);
+                take_changed(&mut report, image, map, &text, n, at, byte)?;
+            }
+            for &byte in b"\",\r\n" {
+                take_changed(&mut report, image, map, &text, n, at, byte)?;
             }
         }
     }
     tallies::print(&mut report, "one byte changed")
 }
 
-// A text with a byte changed.
-fn changed(text: &Output, at: usize, way: usize) -> Output {
+fn byte_at(text: &Output, at: usize) -> u8 {
+    text.get(at).copied().unwrap_or(0)
+}
+
+// Takes a text of so many bytes, one of them another.
+fn take_changed(
+    report: &mut Report<Tally>,
+    image: &Image,
+    map: &PlainMap,
+    text: &Output,
+    n: usize,
+    at: usize,
+    byte: u8,
+) -> io::Result<()> {
     let mut copy = *text;
-    if let Some(byte) = copy.get_mut(at) {
-        *byte = match way {
-            6 => b'"',
-            7 => b',',
-            8 => b'\r',
-            9 => b'\n',
-            _ => (bytes::changed(usize::from(*byte), at, way) % 256) as u8,
-        };
+    if let Some(place) = copy.get_mut(at) {
+        *place = byte;
     }
-    copy
+    takings::tried(report, image, map, &copy, Sheet::any(n))
 }
 
 // Takes texts of many names, one after the other, with deletes among them.
 pub fn run_names(out: Stdout, image: &mut Image, map: &mut PlainMap) -> io::Result<()> {
     let mut report = Report::<Tally>::new(out);
-    for i in 0..names::STEPS {
-        let step = names::at(i);
-        if step.way == names::DELETED {
-            let done = starts::free(image, map, step);
-            report.tally.mismatches.add_if(!done);
-        } else {
-            if step.way == names::ON_EMPTY {
-                starts::empty(image, map);
+    for step in names::steps() {
+        match step.way {
+            Way::Deleted => {
+                let done = starts::free(image, map, step);
+                report.tally.mismatches.add_if(!done);
             }
-            let mut text = outputs::fresh();
-            let sheet = names::write(&mut text, step);
-            takings::made(&mut report, image, map, &text, sheet)?;
+            Way::OnTop => take_names(&mut report, image, map, step)?,
+            Way::OnEmpty => {
+                starts::empty(image, map);
+                take_names(&mut report, image, map, step)?;
+            }
         }
     }
     tallies::print(&mut report, "many names")
+}
+
+fn take_names(
+    report: &mut Report<Tally>,
+    image: &mut Image,
+    map: &mut PlainMap,
+    step: Step,
+) -> io::Result<()> {
+    let mut text = outputs::fresh();
+    let sheet = step.write(&mut text);
+    takings::made(report, image, map, &text, sheet)
 }
 
 // How many texts are drawn, and how many of them are taken by one table.
@@ -134,7 +150,11 @@ pub fn run_drawn(
         }
         seed = numbers::next(seed);
         let mut text = outputs::fresh();
-        let sheet = drawn::write(&mut text, seed, changed);
+        let sheet = if changed {
+            drawn::write_changed(&mut text, seed)
+        } else {
+            drawn::write(&mut text, seed)
+        };
         takings::made(&mut report, image, map, &text, sheet)?;
     }
     let title = if changed {

@@ -14,17 +14,17 @@ mod tallies;
 use images::memory::Image;
 use images::sizes::Sizes;
 use plainmap::PlainMap;
-use sheets::written;
+use sheets::written::Group;
 use std::io;
 
 fn main(rt: HostRuntime) -> io::Result<()> {
     let out = rt.stdout();
     let mut image = Image::fresh(Sizes::HUB);
     let mut map = PlainMap::new(512, 64);
-    for group in 0..written::NOT_SOUND {
-        groups::run_written(out, &mut image, &mut map, group, 1)?;
+    for group in Group::SOUND {
+        groups::run_written(out, &mut image, &mut map, group, 0)?;
     }
-    groups::run_written(out, &mut image, &mut map, written::ANY_BYTE, 256)?;
+    groups::run_written(out, &mut image, &mut map, Group::AnyByte, 255)?;
     groups::run_cut(out, &mut image, &mut map)?;
     groups::run_changed(out, &mut image, &mut map)?;
     groups::run_names(out, &mut image, &mut map)?;

@@ -5,8 +5,9 @@ use images::memory::Image;
 use images::outputs;
 use plainmap::PlainMap;
 use samples::calls::Call;
+use sheets::names;
 use sheets::names::Step;
-use sheets::{names, written};
+use sheets::written::Group;
 
 // Empties an index and a map.
 pub fn empty(image: &mut Image, map: &mut PlainMap) {
@@ -16,13 +17,13 @@ pub fn empty(image: &mut Image, map: &mut PlainMap) {
 }
 
 // Prepares the table of a group of written texts.
-pub fn prepare(image: &mut Image, map: &mut PlainMap, group: usize) {
+pub fn prepare(image: &mut Image, map: &mut PlainMap, group: Group) {
     empty(image, map);
     match group {
-        written::FULL => hold(image, map, names::held(512)),
-        written::ONE_LEFT => hold_some(image, map, 512, names::freed(5, 1)),
-        written::HELD | written::SMALL => hold_some(image, map, 8, names::freed(2, 2)),
-        written::NOT_SOUND => hold_some(image, map, 30, names::freed(3, 4)),
+        Group::Full => hold(image, map, names::held(512)),
+        Group::OneLeft => hold_some(image, map, 512, names::freed(5, 1)),
+        Group::Held | Group::Small => hold_some(image, map, 8, names::freed(2, 2)),
+        Group::NotSound => hold_some(image, map, 30, names::freed(3, 4)),
         _ => {}
     }
 }
@@ -35,7 +36,7 @@ fn hold_some(image: &mut Image, map: &mut PlainMap, straps: usize, freed: Step) 
 // Inserts the names of a step, one by one.
 fn hold(image: &mut Image, map: &mut PlainMap, step: Step) {
     let mut text = outputs::fresh();
-    let sheet = names::write(&mut text, step);
+    let sheet = step.write(&mut text);
     let text = text.get(..sheet.bytes).unwrap_or(&text);
     readings::judge(image, text, map);
     takings::insert_each(image, text, step.names);
@@ -44,7 +45,7 @@ fn hold(image: &mut Image, map: &mut PlainMap, step: Step) {
 // Deletes the names of a step, one by one; whether none is refused.
 pub fn free(image: &mut Image, map: &mut PlainMap, step: Step) -> bool {
     let mut text = outputs::fresh();
-    let sheet = names::write(&mut text, step);
+    let sheet = step.write(&mut text);
     let text = text.get(..sheet.bytes).unwrap_or(&text);
     takings::delete_each(image, map, text, step.names)
 }

@@ -5,14 +5,13 @@ use comparisons::Request;
 use images::memory::Image;
 use images::outputs::Output;
 use images::packing::{Answer, NoAnswer};
-use images::refusals::Refusal;
 use plainmap::PlainMap;
 use readings::{machine, values};
 use reports::Report;
 use reports::faults::{Fault, ensure};
 use rounds::states;
 use samples::calls::Call;
-use sheets::Sheet;
+use sheets::{Due, Sheet};
 use std::io;
 
 // Takes a text, and compares the answer and what is left, past the lengths lent too; counts it.
@@ -59,23 +58,18 @@ fn compare(
     said: Result<Answer, NoAnswer>,
 ) -> Result<(), Fault> {
     ensure(said == Ok(due), Fault::Answer)?;
-    ensure(
-        sheet.refusal == sheets::ANY || written_by(sheet) == Some(due),
-        Fault::Sheet,
-    )?;
+    if let Some(written) = sheet.due {
+        ensure(due == answer(written), Fault::Sheet)?;
+    }
     compare_left(found, left, map, text, entered(due))
 }
 
 // The answer that is written by a text.
-fn written_by(sheet: Sheet) -> Option<Answer> {
-    if sheet.refusal == 0 {
-        return Some(Answer::Taken(sheet.records));
+fn answer(due: Due) -> Answer {
+    match due {
+        Due::Taken(records) => Answer::Taken(records),
+        Due::Refused(record, refusal) => Answer::Refused { refusal, record },
     }
-    let refusal = Refusal::from_number(sheet.refusal)?;
-    Some(Answer::Refused {
-        refusal,
-        record: sheet.records,
-    })
 }
 
 // How many records went in, by the answer: all, or those before the one that is refused.

@@ -1,71 +1,120 @@
 // Texts made of drawn pieces.
 use crate::{Sheet, signs};
-use images::outputs::Output;
+use images::outputs::{Front, Output};
 use samples::numbers;
-use std::num::wrapping_add_usize;
 
-// Writes a text of one to twelve drawn pieces, of which one in twelve is no whole record; or of whole records, and one
-// byte of it is changed.
-pub fn write(text: &mut Output, seed: u64, changed: bool) -> Sheet {
-    let mut sheet = crate::any(0);
-    let mut draw = numbers::mixed_seed(seed, 6);
-    let n = wrapping_add_usize(numbers::below(draw, 12), 1);
-    for i in 0..n {
-        draw = numbers::next(numbers::next(draw));
-        sheet = put_piece(text, sheet, draw, changed);
-    }
-    if changed {
-        let end = sheet.bytes;
-        change(
-            text,
-            numbers::below(numbers::mixed_seed(draw, 1), end),
-            numbers::mixed_seed(draw, 2),
-        );
-    }
-    sheet
+// Whole records.
+const RECORDS: [&[u8]; 24] = [
+    b"#,#/",
+    b"n#,1/",
+    b"N#,2/",
+    b"'#',3/",
+    b"'n#',#/",
+    b"#,'0'/",
+    b"n #,'#'/",
+    b"'#''',65535/",
+    b"'''#',4/",
+    b"'#,#',5/",
+    b"'/#',6/",
+    b"'#;',7/",
+    b"'n#<','8'/",
+    b"'#'',''#',9/",
+    b"'N''''#',10/",
+    b"(#),11/",
+    b" #,12/",
+    b"# ,13/",
+    b"'[#',14/",
+    b"'[mmmmmmmmmmmmmmmmmmmm#',15/",
+    b"s-#,16/",
+    b"'S-#',17/",
+    b"~#,#/",
+    b".#,60000/",
+];
+
+// Pieces of a record.
+const TOKENS: [&[u8]; 32] = [
+    b"'",
+    b"''",
+    b"'''",
+    b",",
+    b",,",
+    b"/",
+    b"//",
+    b"<",
+    b";",
+    b"</",
+    b" ",
+    b"a",
+    b"#",
+    b"0",
+    b"01",
+    b"65536",
+    b"\t",
+    b"\x7f",
+    b"\x80",
+    b"?",
+    b"a,",
+    b",1/",
+    b"'a",
+    b"a'",
+    b"'a',",
+    b"a,'",
+    b"#,65536/",
+    b"#,01/",
+    b"#/",
+    b"#,1,1/",
+    b"'',1/",
+    b"{mm,1/",
+];
+
+// Writes a text of one to twelve drawn pieces, of which one in twelve is no whole record.
+pub fn write(output: &mut Output, seed: u64) -> Sheet {
+    let (bytes, _) = write_pieces(output, seed, false);
+    Sheet::any(bytes)
 }
 
-fn put_piece(text: &mut Output, sheet: Sheet, draw: u64, whole: bool) -> Sheet {
+// Writes a text of whole records, and changes one byte of it.
+pub fn write_changed(output: &mut Output, seed: u64) -> Sheet {
+    let (bytes, draw) = write_pieces(output, seed, true);
+    let at = numbers::below(numbers::mixed_seed(draw, 1), bytes);
+    if let Some(byte) = output.get_mut(at) {
+        *byte = changed(numbers::mixed_seed(draw, 2));
+    }
+    Sheet::any(bytes)
+}
+
+// The bytes of one to twelve pieces, and the number of the generator for the last.
+fn write_pieces(output: &mut Output, seed: u64, whole: bool) -> (usize, u64) {
+    let mut text = Front::new(output);
+    let mut draw = numbers::mixed_seed(seed, 6);
+    for _ in 0..=numbers::below(draw, 12) {
+        draw = numbers::next(numbers::next(draw));
+        push_piece(&mut text, draw, whole);
+    }
+    (text.len(), draw)
+}
+
+fn push_piece(text: &mut Front, draw: u64, whole: bool) {
     let which = numbers::mixed_seed(draw, 3);
     let number = numbers::below(numbers::mixed_seed(draw, 4), 10000);
-    if whole | (numbers::below(numbers::mixed_seed(draw, 5), 12) > 0) {
-        return put_record(text, numbers::below(which, 24), number, sheet);
-    }
-    put_token(text, numbers::below(which, 32), number, sheet)
-}
-
-fn put_record(text: &mut Output, which: usize, number: usize, sheet: Sheet) -> Sheet {
-    signs::write(
-        text,
-        b"#,#/|n#,1/|N#,2/|'#',3/|'n#',#/|#,'0'/|n #,'#'/|'#''',65535/|'''#',4/|'#,#',5/|'/#',6/|'#;',7/\
-        |'n#<','8'/|'#'',''#',9/|'N''''#',10/|(#),11/| #,12/|# ,13/\
-        |'[#',14/|'[mmmmmmmmmmmmmmmmmmmm#',15/|s-#,16/|'S-#',17/|~#,#/|.#,60000/",
-        which,
-        number,
-        sheet,
-    )
-}
-
-fn put_token(text: &mut Output, which: usize, number: usize, sheet: Sheet) -> Sheet {
-    signs::write(
-        text,
-        b"'|''|'''|,|,,|/|//|<|;|</| |a|#|0|01|65536|\t|\x7f|\x80|?|a,|,1/|'a|a'|'a',|a,'|#,65536/|#,01/|#/|#,1,1/\
-        |'',1/|{mm,1/",
-        which,
-        number,
-        sheet,
-    )
-}
-
-// A byte becomes one that matters, or any.
-fn change(text: &mut Output, at: usize, draw: u64) {
-    let byte = match numbers::below(draw, 8) {
-        0 => 34,
-        1 => 44,
-        2 => 13,
-        3 => 10,
-        4 => 48,
-        _ => numbers::below(numbers::next(draw), 256),
+    let pieces: &[&[u8]] = if whole || numbers::below(numbers::mixed_seed(draw, 5), 12) > 0 {
+        &RECORDS
+    } else {
+        &TOKENS
     };
-    signs::put(text, at, byte);
+    if let Some(piece) = pieces.get(numbers::below(which, pieces.len())) {
+        signs::write(text, piece, number);
+    }
+}
+
+// A byte that matters, or any.
+fn changed(draw: u64) -> u8 {
+    match numbers::below(draw, 8) {
+        0 => b'"',
+        1 => b',',
+        2 => b'\r',
+        3 => b'\n',
+        4 => b'0',
+        _ => (numbers::below(numbers::next(draw), 256) % 256) as u8,
+    }
 }

@@ -7,28 +7,25 @@ pub mod names;
 mod signs;
 pub mod written;
 
-// A text: its bytes, and what is to come of taking it: so many records go in, or where the refusal is not 0 the record
-// of that number is refused. While it is written, whether the two numbers before it are read.
-#[derive(Clone, Copy)]
-pub struct Sheet {
-    pub bytes: usize,
-    pub records: usize,
-    pub refusal: usize,
-    part: usize,
+use images::refusals::Refusal;
+
+// What is to come of taking a text: so many records go in; or the record of a number is refused.
+#[derive(Clone, Copy, Debug, PartialEq, Eq)]
+pub enum Due {
+    Taken(usize),
+    Refused(usize, Refusal),
 }
 
-// The bytes of a text that is not there.
-pub const NO_TEXT: usize = 65535;
+// A text: its bytes, and what is to come of it where that is known.
+#[derive(Clone, Copy, Debug, PartialEq, Eq)]
+pub struct Sheet {
+    pub bytes: usize,
+    pub due: Option<Due>,
+}
 
-// No refusal's number: what is to come of the text is not written beside it.
-pub const ANY: usize = 99;
-
-// A text of so many bytes, of which nothing is said.
-pub fn any(bytes: usize) -> Sheet {
-    Sheet {
-        bytes: bytes,
-        records: 0,
-        refusal: ANY,
-        part: signs::BODY,
+impl Sheet {
+    // A text of so many bytes, of which nothing is said.
+    pub fn any(bytes: usize) -> Sheet {
+        Sheet { bytes, due: None }
     }
 }

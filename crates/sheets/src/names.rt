@@ -1,168 +1,219 @@
 // Texts of many names: in order and in reverse, for an empty table, on top of others and after deletes.
-use crate::{Sheet, signs};
-use images::outputs::Output;
-use std::num::wrapping_sub_usize;
+use crate::Due::{Refused, Taken};
+use crate::{Due, Sheet, signs};
+use images::outputs::{Front, Output};
+use images::refusals::Refusal::{AlreadyHeld, BrokenRecord, Full, LongText};
 
-// A step: the names of a shape, from one on, so far apart in a ring of a thousand, so many. A text of them is taken, by
-// an empty table or on top of what is held, and so many records go in, or that one is refused; or they are deleted.
-#[derive(Clone, Copy)]
+// A step: the names of a form, from one on, so far apart in a ring of a thousand, so many. A text of them is taken, by
+// an empty table or on top of what is held; or they are deleted.
+#[derive(Clone, Copy, Debug)]
 pub struct Step {
-    pub way: usize,
-    pub shape: usize,
-    pub first: usize,
-    pub apart: usize,
+    pub way: Way,
+    form: Form,
+    first: usize,
+    apart: usize,
     pub names: usize,
-    pub records: usize,
-    pub refusal: usize,
+    due: Due,
 }
 
-// The ways.
-pub const ON_EMPTY: usize = 0;
+#[derive(Clone, Copy, Debug, PartialEq, Eq)]
+pub enum Way {
+    OnEmpty,
+    OnTop,
+    Deleted,
+}
 
-pub const ON_TOP: usize = 1;
-
-pub const DELETED: usize = 2;
-
-// The shapes: names of straps, and in capital letters; names that share 40 bytes; names of 64 bytes; names of straps in
-// records of 32 bytes each, these with the last byte cut, the last two, and one byte more.
-pub const STRAPS: usize = 0;
-
-const CAPITALS: usize = 1;
-
-const ALIKE: usize = 2;
-
-const LONGEST: usize = 3;
-
-const WIDE: usize = 4;
-
-const ONE_CUT: usize = 5;
-
-const TWO_CUT: usize = 6;
-
-const ONE_MORE: usize = 7;
+// Names of straps, and in capital letters; names that share 40 bytes; names of 64 bytes; names of straps in records of
+// 32 bytes each, these with the last byte cut, the last two, and one byte more.
+#[derive(Clone, Copy, Debug, PartialEq, Eq)]
+enum Form {
+    Straps,
+    Capitals,
+    Alike,
+    Longest,
+    Wide,
+    OneCut,
+    TwoCut,
+    OneMore,
+}
 
 // From one name to the one before it, and to the third before it.
 const BACK: usize = 999;
 
 const THREE_BACK: usize = 997;
 
-pub const STEPS: usize = 35;
-
-pub fn at(i: usize) -> Step {
-    match i {
-        0 => step_of(ON_EMPTY, STRAPS, 0, 1, 384, 384, 0),
-        1 => step_of(ON_TOP, STRAPS, 0, 1, 384, 1, 7),
-        2 => step_of(ON_TOP, STRAPS, 384, 1, 128, 128, 0),
-        3 => step_of(ON_TOP, STRAPS, 512, 1, 9, 1, 9),
-        4 => step_of(ON_TOP, STRAPS, 511, 1, 9, 1, 7),
-        5 => step_of(ON_TOP, CAPITALS, 100, 1, 9, 1, 7),
-        6 => step_of(ON_EMPTY, STRAPS, 383, BACK, 384, 384, 0),
-        7 => step_of(ON_TOP, STRAPS, 483, BACK, 200, 101, 7),
-        8 => step_of(ON_TOP, CAPITALS, 484, 1, 29, 29, 9),
-        9 => step_of(ON_EMPTY, STRAPS, 0, 1, 512, 512, 0),
-        10 => step_of(ON_EMPTY, STRAPS, 0, 1, 513, 513, 9),
-        11 => step_of(ON_EMPTY, STRAPS, 511, BACK, 512, 512, 0),
-        12 => step_of(DELETED, STRAPS, 1, 3, 100, 100, 0),
-        13 => step_of(ON_TOP, STRAPS, 600, 1, 60, 60, 0),
-        14 => step_of(ON_TOP, CAPITALS, 298, THREE_BACK, 41, 41, 9),
-        15 => step_of(DELETED, STRAPS, 511, THREE_BACK, 80, 80, 0),
-        16 => step_of(ON_TOP, STRAPS, 700, 1, 80, 80, 0),
-        17 => step_of(ON_TOP, STRAPS, 1, 1, 1, 1, 9),
-        _ => later(i),
-    }
-}
-
-fn later(i: usize) -> Step {
-    match i {
-        18 => step_of(ON_EMPTY, CAPITALS, 0, 1, 100, 100, 0),
-        19 => step_of(ON_TOP, STRAPS, 50, BACK, 60, 1, 7),
-        20 => step_of(ON_TOP, STRAPS, 100, 1, 20, 20, 0),
-        21 => step_of(ON_TOP, STRAPS, 122, BACK, 9, 4, 7),
-        22 => step_of(ON_EMPTY, ALIKE, 0, 1, 280, 280, 0),
-        23 => step_of(ON_TOP, ALIKE, 511, BACK, 280, 233, 7),
-        24 => step_of(ON_EMPTY, LONGEST, 0, 1, 200, 200, 0),
-        25 => step_of(ON_TOP, LONGEST, 399, BACK, 200, 200, 0),
-        26 => step_of(ON_EMPTY, WIDE, 0, 1, 512, 512, 0),
-        27 => step_of(ON_EMPTY, ONE_CUT, 0, 1, 512, 512, 13),
-        28 => step_of(ON_EMPTY, TWO_CUT, 0, 1, 512, 512, 0),
-        29 => step_of(ON_EMPTY, WIDE, 0, 1, 513, 0, 12),
-        30 => step_of(ON_EMPTY, ONE_MORE, 0, 1, 512, 0, 12),
-        31 => step_of(ON_EMPTY, WIDE, 511, BACK, 512, 512, 0),
-        32 => step_of(ON_TOP, WIDE, 511, BACK, 512, 1, 7),
-        33 => step_of(ON_TOP, WIDE, 600, 1, 512, 1, 9),
-        _ => step_of(ON_TOP, ONE_MORE, 600, 1, 512, 0, 12),
-    }
+pub fn steps() -> [Step; 35] {
+    [
+        step_of(Way::OnEmpty, Form::Straps, 0, 1, 384, Taken(384)),
+        step_of(Way::OnTop, Form::Straps, 0, 1, 384, Refused(1, AlreadyHeld)),
+        step_of(Way::OnTop, Form::Straps, 384, 1, 128, Taken(128)),
+        step_of(Way::OnTop, Form::Straps, 512, 1, 9, Refused(1, Full)),
+        step_of(Way::OnTop, Form::Straps, 511, 1, 9, Refused(1, AlreadyHeld)),
+        step_of(
+            Way::OnTop,
+            Form::Capitals,
+            100,
+            1,
+            9,
+            Refused(1, AlreadyHeld),
+        ),
+        step_of(Way::OnEmpty, Form::Straps, 383, BACK, 384, Taken(384)),
+        step_of(
+            Way::OnTop,
+            Form::Straps,
+            483,
+            BACK,
+            200,
+            Refused(101, AlreadyHeld),
+        ),
+        step_of(Way::OnTop, Form::Capitals, 484, 1, 29, Refused(29, Full)),
+        step_of(Way::OnEmpty, Form::Straps, 0, 1, 512, Taken(512)),
+        step_of(Way::OnEmpty, Form::Straps, 0, 1, 513, Refused(513, Full)),
+        step_of(Way::OnEmpty, Form::Straps, 511, BACK, 512, Taken(512)),
+        step_of(Way::Deleted, Form::Straps, 1, 3, 100, Taken(100)),
+        step_of(Way::OnTop, Form::Straps, 600, 1, 60, Taken(60)),
+        step_of(
+            Way::OnTop,
+            Form::Capitals,
+            298,
+            THREE_BACK,
+            41,
+            Refused(41, Full),
+        ),
+        step_of(Way::Deleted, Form::Straps, 511, THREE_BACK, 80, Taken(80)),
+        step_of(Way::OnTop, Form::Straps, 700, 1, 80, Taken(80)),
+        step_of(Way::OnTop, Form::Straps, 1, 1, 1, Refused(1, Full)),
+        step_of(Way::OnEmpty, Form::Capitals, 0, 1, 100, Taken(100)),
+        step_of(
+            Way::OnTop,
+            Form::Straps,
+            50,
+            BACK,
+            60,
+            Refused(1, AlreadyHeld),
+        ),
+        step_of(Way::OnTop, Form::Straps, 100, 1, 20, Taken(20)),
+        step_of(
+            Way::OnTop,
+            Form::Straps,
+            122,
+            BACK,
+            9,
+            Refused(4, AlreadyHeld),
+        ),
+        step_of(Way::OnEmpty, Form::Alike, 0, 1, 280, Taken(280)),
+        step_of(
+            Way::OnTop,
+            Form::Alike,
+            511,
+            BACK,
+            280,
+            Refused(233, AlreadyHeld),
+        ),
+        step_of(Way::OnEmpty, Form::Longest, 0, 1, 200, Taken(200)),
+        step_of(Way::OnTop, Form::Longest, 399, BACK, 200, Taken(200)),
+        step_of(Way::OnEmpty, Form::Wide, 0, 1, 512, Taken(512)),
+        step_of(
+            Way::OnEmpty,
+            Form::OneCut,
+            0,
+            1,
+            512,
+            Refused(512, BrokenRecord),
+        ),
+        step_of(Way::OnEmpty, Form::TwoCut, 0, 1, 512, Taken(512)),
+        step_of(Way::OnEmpty, Form::Wide, 0, 1, 513, Refused(0, LongText)),
+        step_of(Way::OnEmpty, Form::OneMore, 0, 1, 512, Refused(0, LongText)),
+        step_of(Way::OnEmpty, Form::Wide, 511, BACK, 512, Taken(512)),
+        step_of(
+            Way::OnTop,
+            Form::Wide,
+            511,
+            BACK,
+            512,
+            Refused(1, AlreadyHeld),
+        ),
+        step_of(Way::OnTop, Form::Wide, 600, 1, 512, Refused(1, Full)),
+        step_of(Way::OnTop, Form::OneMore, 600, 1, 512, Refused(0, LongText)),
+    ]
 }
 
 // Names of straps that a table is to hold at first, so many from the first on.
 pub fn held(names: usize) -> Step {
-    step_of(ON_EMPTY, STRAPS, 0, 1, names, names, 0)
+    step_of(Way::OnEmpty, Form::Straps, 0, 1, names, Taken(names))
 }
 
 // Names of straps that are deleted then.
 pub fn freed(first: usize, names: usize) -> Step {
-    step_of(DELETED, STRAPS, first, 3, names, names, 0)
+    step_of(Way::Deleted, Form::Straps, first, 3, names, Taken(names))
 }
 
-fn step_of(
-    way: usize,
-    shape: usize,
-    first: usize,
-    apart: usize,
-    names: usize,
-    records: usize,
-    refusal: usize,
-) -> Step {
+fn step_of(way: Way, form: Form, first: usize, apart: usize, names: usize, due: Due) -> Step {
     Step {
-        way: way,
-        shape: shape,
-        first: first,
-        apart: apart,
-        names: names,
-        records: records,
-        refusal: refusal,
+        way,
+        form,
+        first,
+        apart,
+        names,
+        due,
     }
 }
 
-// Writes a step's text, with what is to come of it.
-pub fn write(text: &mut Output, step: Step) -> Sheet {
-    let mut sheet = crate::any(0);
-    let mut number = step.first;
-    let n = step.names;
-    for i in 0..n {
-        sheet = put_record(text, sheet, step.shape, 1000 + number % 1000);
-        number = number % 1000 + step.apart % 1000;
-    }
-    sheet.bytes = wrapping_sub_usize(sheet.bytes, cut(step.shape));
-    sheet.records = step.records;
-    sheet.refusal = step.refusal;
-    sheet
-}
-
-// The bytes cut from the end.
-fn cut(shape: usize) -> usize {
-    match shape {
-        ONE_CUT => 1,
-        TWO_CUT => 2,
-        ONE_MORE => wrapping_sub_usize(0, 1),
-        _ => 0,
+impl Step {
+    // Writes the text, with what is to come of it.
+    pub fn write(self, output: &mut Output) -> Sheet {
+        let mut text = Front::new(output);
+        let records = self.form.records();
+        let mut name = self.first;
+        for _ in 0..self.names {
+            let number = 1000 + name % 1000;
+            if let Some(record) = records.get(number.checked_rem(records.len()).unwrap_or(0)) {
+                signs::write(&mut text, record, number);
+            }
+            name = name % 1000 + self.apart % 1000;
+        }
+        Sheet {
+            bytes: self.form.cut(text.len()),
+            due: Some(self.due),
+        }
     }
 }
 
-// The quotes of a record go by its number: none, about the name, about the value, about both.
-fn put_record(text: &mut Output, sheet: Sheet, shape: usize, number: usize) -> Sheet {
-    let mut which = 4 * (shape % 8) + number % 4;
-    if shape >= WIDE {
-        which = 16;
+impl Form {
+    // A record's number says which of these it is.
+    fn records(self) -> &'static [&'static [u8]] {
+        match self {
+            Form::Straps => &STRAPS,
+            Form::Capitals => &CAPITALS,
+            Form::Alike => &ALIKE,
+            Form::Longest => &LONGEST,
+            Form::Wide | Form::OneCut | Form::TwoCut | Form::OneMore => &WIDE,
+        }
     }
-    signs::write(
-        text,
-        b"s-#,#/|'s-#',#/|s-#,'#'/|'s-#','#'/|S-#,#/|'S-#',#/|S-#,'#'/|'S-#','#'/\
-        |[#,#/|'[#',#/|[#,'#'/|'[#','#'/\
-        |[mmmmmmmmmmmmmmmmmmmm#,#/|'[,,,,,,,,,,,,,,,,,,,,#',#/|[....................#,'#'/|'[////------------#','#'/\
-        |strap-# of an old club,#/",
-        which,
-        number,
-        sheet,
-    )
+
+    // The bytes of a text that has so many.
+    fn cut(self, bytes: usize) -> usize {
+        match self {
+            Form::OneCut => bytes.wrapping_sub(1),
+            Form::TwoCut => bytes.wrapping_sub(2),
+            Form::OneMore => bytes.wrapping_add(1),
+            _ => bytes,
+        }
+    }
 }
+
+// The quotes of a record: none, about the name, about the value, about both.
+const STRAPS: [&[u8]; 4] = [b"s-#,#/", b"'s-#',#/", b"s-#,'#'/", b"'s-#','#'/"];
+
+const CAPITALS: [&[u8]; 4] = [b"S-#,#/", b"'S-#',#/", b"S-#,'#'/", b"'S-#','#'/"];
+
+const ALIKE: [&[u8]; 4] = [b"[#,#/", b"'[#',#/", b"[#,'#'/", b"'[#','#'/"];
+
+const LONGEST: [&[u8]; 4] = [
+    b"[mmmmmmmmmmmmmmmmmmmm#,#/",
+    b"'[,,,,,,,,,,,,,,,,,,,,#',#/",
+    b"[....................#,'#'/",
+    b"'[////------------#','#'/",
+];
+
+const WIDE: [&[u8]; 1] = [b"strap-# of an old club,#/"];

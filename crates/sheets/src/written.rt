@@ -1,137 +1,665 @@
-// Texts written out by hand, in groups, with what is to come of each before it: how many records go in, or which record
-// is refused and, after a colon, by which number.
-use crate::{Sheet, signs};
-use images::outputs::Output;
+// Texts written out by hand, in groups, with what is to come of each before it.
+use crate::Due::{Refused, Taken};
+use crate::{Due, Sheet, signs};
+use images::outputs::{Front, Output};
+use images::refusals::Refusal::{
+    AlreadyHeld, BrokenRecord, EmptyLabel, Full, LongLabel, LongText, NotSound,
+};
 
-// The groups: for an empty table, fields with and without quotes; quotes at wrong places; the ends of records; one
-// field, three, and first lines that are no record; bytes that no field has; values; labels, and 13 before their 3 and
-// 4; labels in two spellings; texts as long as may be, and longer.
-pub const ON_EMPTY: usize = 9;
-
-// For a table that holds straps s-1000 to s-1007 but for s-1002 and s-1005, which were deleted.
-pub const HELD: usize = 9;
-
-// For a full table, of straps s-1000 to s-1511; and for the same without s-1005.
-pub const FULL: usize = 10;
-
-pub const ONE_LEFT: usize = 11;
-
-// For memory that is not sound.
-pub const NOT_SOUND: usize = 12;
-
-// Texts in which a byte, any, stands at a place; and small ones to cut short and to change. No end is written beside
-// these.
-pub const ANY_BYTE: usize = 13;
-
-pub const SMALL: usize = 14;
-
-// The most texts that a group may have, with its title, which is number 0.
-pub const TEXTS: usize = 128;
-
-// Writes text `i` of a group into the front of an array, with a byte for the sign that stands for one.
-pub fn write(text: &mut Output, group: usize, i: usize, byte: usize) -> Sheet {
-    let mut start = crate::any(0);
-    start.part = signs::RECORDS;
-    start.refusal = 0;
-    signs::write(
-        text,
-        b" fields\
-        |0 |1 a,1|1 a,1/|2 a,1/b,2|2 a,1/b,2/|3 b,2/a,1/c,3\
-        |1 'a',1|1 'a',1/|1 a,'1'|1 a,'1'/|1 'a','1'|1 'a','1'/|2 'a',1/'b','2'/|3 a,'1'/'b',2/c,3\
-        |1 a b,1/|1  a,1/|1 a ,1/|1  ,1/|1 ' ',1/|2 a,1/ a,1/\
-        |1  !()*+-.:=>A~,1/|1 ' !()*+-.:=>A~',1/\
-        |1 'a,b',1/|1 ',',1/|1 ',,,',1|1 'a,1',2/\
-        |1 '/',1/|1 'a/b',1/|1 '//',1|1 '<',1/|1 ';',1/|1 ';<',1/|1 'a;',1/|1 '/a,1/',2/|2 'a/b',1/a,2/\
-        |1 '''',1/|1 '''''',1/|1 'a''b',1/|1 '''a''',1/|1 'a''',1/|1 '''a',1/|1 ''',''',1/|1 '''/''',1/\
-        |2 '''',1/'''''','2'/|1 ',''<;/',65535|2 ''',''',1/',''',2/|1 'a''''b',1\
-        |2 1,1/2,2/|1 01,1/|1 label,0/\
-        & quotes\
-        |1:13 a'b,1/|1:13 a',1/|1:13 a'',1/|1:13 a'b',1/|1:13 a'b'c,1/|1:13  'a',1/|1:13 a''b,1/\
-        |1:13 'a' ,1/|1:13 'a'b,1/|1:13 'a'b',1/|1:13 'a'1/|1:13 'a'<,1/|1:13 'a';,1/|1:13 'a'\x00,1/|1:13 ''a,1/\
-        |1:13 'a|1:13 'a,1/|1:13 'a,1/b,2/|1:13 '|1:13 '''|1:13 'a'',1/|1:13 ',1/|1:13 '/|1:13 '''',''1/\
-        |1:13 a,1'/|1:13 a,1'2'/|1:13 a,'1/|1:13 a,'1'2/|1:13 a,'1' /|1:13 a, '1'/|1:13 a,'1'''/|1:13 a,1''/\
-        |1:13 a,'1|1:13 a,'|1:13 a,''1|1:13 a,'1'<|1:13 a,'1';|1:13 a,'1'</\
-        |2:13 a,1/'b,2/c,3/|2:13 a,1/b',2/c,3/|2:13 a,1/'b'c,2/|2:13 a,1/b,2'/|3:13 a,1/b,2/c,'3\
-        & line ends\
-        |1:13 a,1;|1:13 a,1;b,2;|1:13 a,1;b,2/|1:13 a,1;/|1:13 a,'1';b,2/\
-        |1:13 a,1<|1:13 a,1<b,2/|1:13 a,1<b,2<|1:13 a,1<</|1:13 a,1;<|1:13 a,1<,/|1:13 a,'1'<b,2/\
-        |1:13 a;,1/|1:13 a<,1/|1:13 ;a,1/|1:13 <a,1/|1:13 a,;1/|1:13 a,<1/|1:13 a/,1/|1:13 a,/1/\
-        |1:13 /|1:13 //|1:13 /a,1/|1:13 ;|1:13 <|1:13 ;a,1|1:13 <;<;|1:13 ;</\
-        |2:13 a,1//|2:13 a,1//b,2/|2:13 a,1/;|2:13 a,1/<|2:13 a,1/ |2:13 a,1/ /|2:13 a,1/<b,2/|2:13 a,1/;b,2/\
-        |3:13 a,1/b,2//|3:13 a,1/b,2//c,3/|3:13 a,1/b,2/;c,3/|2:13 a,1/b,2<|2:13 a,1/b,2;|3:13 a,1/b,2/c,3<\
-        & counts of fields\
-        |1:13 a|1:13 a/|1:13 'a'|1:13 'a'/|1:13 1|1:13 1/|1:13 a 1/|1:13 a\t1/|1:13 a:1/|1:13 'a,1'/|1:13 ''/\
-        |1:13 a,1,2|1:13 a,1,2/|1:13 a,1,/|1:13 a,1,|1:13 ,a,1/|1:13 a,,1/|1:13 'a','1','2'/|1:13 a,1,''/\
-        |1:13 a,1,2,3/|1:13 ,,/|1:13 ,,,|1:13 a,1,,/|1:13 1,1,1|1:13 a,1,'/\
-        |1:13 label,value/|1:13 label,value/a,1/|1:13 'label','value'/a,1/|1:13 Name,Strap/a,1/|1:13 label/a,1/\
-        |1:13 \xef\xbb\xbfa,1/|1:13 \xef\xbb\xbf'a',1/|1:13 \xef\xbb\xbf|1:13 \xff\xfea,1/|1:13 sep=,/a,1/\
-        |2:13 a,1/b|2:13 a,1/b/|2:13 a,1/b/c,3/|2:13 a,1/b,2,3/|2:13 a,1/b,2,/|2:13 a,1/,b,2/\
-        |2:13 a,1/label,value/b,2/\
-        |2:13 a,1/b,|2:13 a,1/,|2:13 a,1/,/|3:13 a,1/b,2/c,3,4/\
-        & bytes\
-        |1:13 \t,1/|1:13 '\t',1/|1:13 a\tb,1/|1:13 'a\tb',1/|1:13 a,\t1/|1:13 a,1\t/\
-        |1:13 \x00,1/|1:13 '\x00',1/|1:13 a,1\x00/|1:13 a,1\x00|1:13 \x1f,1/|1:13 '\x1f',1/|1:13 '\x0b\x0c',1/\
-        |1:13 \x1a\
-        |1:13 \x7f,1/|1:13 '\x7f',1/|1:13 a,\x7f/|1:13 a,1\x7f|1:13 \x80,1/|1:13 '\x80',1/|1:13 \xff,1/|1:13 '\xff',1/\
-        |1:13 J\xc3\xbcrg,1/|1:13 'J\xc3\xbcrg',1/|1:13 J\xfcrg,1/|1:13 a,\xb1/|1:13 a\xa0b,1/|1:13 'a\xa0b',1/\
-        |2:13 a,1/b\xe9,2/|2:13 a,1/'b\xe9',2/|2:13 a,1/\x1a|2:13 a,1/\x00|3:13 a,1/b,2/\x7f,3/c,4/\
-        & values\
-        |1 a,0|1 a,0/|1 a,'0'/|1 a,9/|1 a,10|1 a,256/|1 a,9999/|1 a,60000/|1 a,65535|1 a,65535/|1 a,'65535'/\
-        |1:13 a,65536|1:13 a,65536/|1:13 a,'65536'/|1:13 a,65537/|1:13 a,65540/|1:13 a,66000/|1:13 a,70000/\
-        |1:13 a,99999/|1:13 a,100000/|1:13 a,131072/|1:13 a,655350/|1:13 a,4294967296/|1:13 a,4294967297/\
-        |1:13 a,18446744073709551616/|1:13 a,18446744073709551617/|1:13 a,$/|1:13 a,'$'/|1:13 a,$$$$$$$$$$$$$$$$/\
-        |1:13 a,00/|1:13 a,01/|1:13 a,007/|1:13 a,'007'/|1:13 a,00000/|1:13 a,065535/|1:13 a,%/|1:13 a,%1/|1:13 a,'%1'\
-        |1:13 a,/|1:13 a,|1:13 a,''/|1:13 a,''|1:13 a, /|1:13 a, 1/|1:13 a,1 /|1:13 a,1 2/|1:13 a,' 1'/\
-        |1:13 a,''''/|1:13 a,'1''2'/|1:13 a,'''1'/|1:13 a,'''1'''/|1:13 a,'1,2'/|1:13 a,'1/'/|1:13 a,'/1'/\
-        |1:13 a,'1;'/\
-        |1:13 a,+1/|1:13 a,-1/|1:13 a,-0/|1:13 a,1.0/|1:13 a,1e3/|1:13 a,0x1/|1:13 a,x/\
-        & labels\
-        |1:3 ,1|1:3 ,1/|1:3 ,'1'/|1:3 '',1/|1:3 '','1'|1:3 ,0/|1:3 ,65535/a,1/|2:3 a,1/,2/|2:3 a,1/'',2/b,3/\
-        |1 {,1/|1 {m,1/|1 '{m',1/|1 '{,',1|1 '{;',1/|1:4 '{/',1/|1:4 {mm,1/|1:4 '{mm',1/|1:4 '{/m',1|1:4 ${,1/|1:4 $$$$$$$$$$,1\
-        |1 '}''',1/|1 '}m',1/|1 'm}',1/|1:4 '}''''',1/|1:4 '}mm',1/|1:4 '}''m',1/|1:4 '}}',1/|1:4 '}}}}}}}}',1\
-        |2:4 a,1/{mm,2/|2:4 a,1/'}''m',2/b,3/|2 {m,1/{n,2/|2 {,1/{m,2/\
-        |1:13 ,|1:13 ,/|1:13 ,x/|1:13 ,65536/|1:13 '',01/|1:13 ,1,2/|1:13 ,1;|1:13 ,1<|1:13 '',''/|1:13 ''1,1/\
-        |1:13 {mm,x/|1:13 {mm,65536/|1:13 {mm,1<|1:13 {mm/|1:13 {mm,1,1/|1:13 '{mm'm,1/|1:13 '}''m,1/|1:13 {mm,%1/\
-        |1:3 ,1/a|1:3 ,1//|1:3 ,1/,x/|1:4 {mm,1/a|1:4 {mm,1/,x/|2:3 a,1/,1/x|2:13 a,1/,x/|2:13 a,1/{mm,x/\
-        & respelled\
-        |2:7 a,1/a,1/|2:7 a,1/a,2/|2:7 a,1/A,2/|2:7 A,1/a,2|2:7 'a',1/a,1/|2:7 a,1/'A',1|2:7 a,1/a,'2'\
-        |3:7 U16 anna,1/b,2/U16 Anna,3/|3:7 a,1/b,2/A,3/c,4/|2:7 'a''b',1/'A''B',2/|2:7 '/',1/'/',2/|2:7 '''',1/'''',2\
-        |2:7 {m,1/'{M',2/|2:7 '}''',1/'}''',2/|2:7 a,1/A,2/x|2:7 a,1/A,2//|2:7 a,1/A,2/,3/\
-        |2:13 a,1/A,x/|2:13 a,1/a,01/|2:13 a,1/A|2:13 a,1/A,2,3/|2:13 a,1/A,2;|2:13 a,1/A,2<|2:13 a,1/'A,2/\
-        |2 a,1/a ,1/|2 a,1/ a,1/|2 a,1/aa,2/|2 _,1/Z,2/|2 a,1/'a''',2/|2 '/',1/'<',2/|2 {,1/{m,2/|3 _,1/Z,2/`,3\
-        & long\
-        |1:4 x^,1/|0:12 x^,12/|1:4 x^x,1|0:12 x^xx,1/|1:13 x^xxxx|0:12 x^xxxxx|1:13 x^xxx\
-        |1:13 a,1^1/|1:13 a,0^01/|0:12 a,1^111/|1:13 a,1^1111|1:13 a,1^11|1:13 a,'1^1'/|0:12 a,'1^11'/\
-        |1:13 'x^xxxx|0:12 'x^xxxxx|1:4 'x^',1|0:12 'x^',1/|1:4 '^'',1|1:13 '^''''|0:12 '^'''''\
-        |1:13 ;^;;;;|1:13 <^<<<<|1:13 ,^,,,,|0:12 ,^,,,,,|1:13  ^    |1:3 ,1/x^xxxx|1:13 /^xxxx\
-        |2:4 a,1/x^,1/|2:13 a,1/x^xxxx|2:13 a,1/b,2^2222|0:12 a,1/x^xxxxx|2:7 a,1/a,2/x^xxxx|3:13 a,1/b,2/x^xxxx\
-        |2:13 a,1/'x^'xxx|3:4 a,1/b,2/x^,3/|0:12 $$$$$$$$$$$$$$$$$|0:12 a,1/x^$$$$$$$$$$$$$$$$|0:12 ,1/x^xxxxx\
-        & straps held\
-        |0 |1:7 s-1003,1/|1:7 's-1003',1|1:7 S-1003,1/|1:7 's-1000',1/|1:7 s-1007,1/a,1/|2:7 a,1/s-1003,2/\
-        |2:7 s-1002,1/S-1003,2/\
-        |3:7 s-1005,1/s-1002,2/s-1001,3|1 s-1002,1/|2 s-1005,1/s-1002,2/|2 s-1002,1/s-1005,2\
-        |3 s-1002,1/s-1005,2/s-1008,3/|4 a,1/b,2/c,3/d,4/|2:7 s-1002,1/s-1002,2/\
-        |1:13 s-1003,x/|1:13 s-1003|1:13 s-1003,1,1/|1:13 s-1003,1;|1:3 ,1/|1:4 {mm,1/|2:13 s-1002,1/s-1003,x/\
-        |2:3 s-1002,1/,2/|2:4 s-1002,1/{mm,2\
-        & table full\
-        |0 |1:9 a,1/|1:9 'a',1|1:9 a,1/b,x/|1:9 a,1/,1/|1:9 {m,1/|1:7 s-1003,1/|1:7 'S-1003',1/|1:7 s-1003,1/a,1/\
-        |1:13 a,x/|1:13 a|1:13 a,1;|1:13 s-1003,x|1:3 ,1/|1:4 {mm,1/|0:12 x^xxxxx\
-        & one slot left\
-        |0 |1 a,1/|1 s-1005,1/|2:9 a,1/b,2/|2:9 s-1005,1/b,2/|2:9 a,1/s-1005,2/c,3|2:7 a,1/A,2/|2:7 a,1/s-1003,2/\
-        |1:7 s-1003,1/a,1/\
-        |2:13 a,1/b,x/|2:13 a,1/s-1003,x/|2:3 a,1/,2/|2:4 a,1/{mm,2/|1:13 a|2:13 a,1/b\
-        & not sound\
-        |0 |1:6 a,1/|1:6 'a','1'|1:6 s-1003,1/|1:6 {m,1/|1:6 a,1/b|1:6 a,1/,1/|1:6 a,1/A,1/\
-        |1:13 a|1:13 a,x/|1:13 ,x|1:13 {mm,x/|1:13 a,1;|1:3 ,1/|1:3 '',1/|1:4 {mm,1/|1:4 '}''m',1/|0:12 x^xxxxx\
-        & any byte\
-        |0:99 ?,1/|0:99 a?b,1/c,2/|0:99 '?',1/|0:99 'a?b',1/c,2/|0:99 'a'?,1/|0:99 ?'a',1/|0:99 a?1/\
-        |0:99 a,?/|0:99 a,?1/|0:99 a,1?/|0:99 a,'1?'/|0:99 a,'1'?/|0:99 a,6?535/|0:99 a,6553?\
-        |0:99 a,1?b,2/|0:99 a,1<?b,2/|0:99 a,1?;b,2/|0:99 a,1/?|0:99 a,1/b?2/|0:99 ?\
-        & small\
-        |0:99 anna,1/Bert,22/cleo,333/dora,65535/|0:99 'a''b',1/'c,d','20'/'e/f',300/g,'0'\
-        |0:99 a,9/'',1/b,2/|0:99 s-1003,1/s-1004,2/s-1002,3/|0:99 'b',1/'a',1/c,10/A,1/",
-        TEXTS * (group % 16) + i % TEXTS,
-        byte,
-        start,
-    )
+// The groups.
+#[derive(Clone, Copy, Debug, PartialEq, Eq)]
+pub enum Group {
+    // For an empty table, fields with and without quotes.
+    Fields,
+    // Quotes at wrong places.
+    Quotes,
+    // The ends of records.
+    LineEnds,
+    // One field, three, and first lines that are no record.
+    FieldCounts,
+    // Bytes that no field has.
+    Bytes,
+    Values,
+    // Labels, and 13 before their 3 and 4.
+    Labels,
+    // Labels in two spellings.
+    Respelled,
+    // Texts as long as may be, and longer.
+    Long,
+    // For a table that holds straps s-1000 to s-1007 but for s-1002 and s-1005, which were deleted.
+    Held,
+    // For a full table, of straps s-1000 to s-1511.
+    Full,
+    // For the same without s-1005.
+    OneLeft,
+    // For memory that is not sound.
+    NotSound,
+    // Texts in which a byte, any, stands at a place.
+    AnyByte,
+    // Small ones, to cut short and to change.
+    Small,
 }
+
+// The most texts of a group.
+pub const TEXTS: usize = 64;
+
+impl Group {
+    // Those for sound tables, of texts with what is to come of them.
+    pub const SOUND: [Group; 12] = [
+        Group::Fields,
+        Group::Quotes,
+        Group::LineEnds,
+        Group::FieldCounts,
+        Group::Bytes,
+        Group::Values,
+        Group::Labels,
+        Group::Respelled,
+        Group::Long,
+        Group::Held,
+        Group::Full,
+        Group::OneLeft,
+    ];
+
+    pub fn title(self) -> &'static str {
+        match self {
+            Group::Fields => "fields",
+            Group::Quotes => "quotes",
+            Group::LineEnds => "line ends",
+            Group::FieldCounts => "counts of fields",
+            Group::Bytes => "bytes",
+            Group::Values => "values",
+            Group::Labels => "labels",
+            Group::Respelled => "respelled",
+            Group::Long => "long",
+            Group::Held => "straps held",
+            Group::Full => "table full",
+            Group::OneLeft => "one slot left",
+            Group::NotSound => "not sound",
+            Group::AnyByte => "any byte",
+            Group::Small => "small",
+        }
+    }
+
+    // Writes text `i` of the group, where it has so many, into the front of an array, with a byte for the sign that
+    // stands for one.
+    pub fn write(self, output: &mut Output, i: usize, byte: u8) -> Option<Sheet> {
+        let (due, signs) = self.text(i)?;
+        let mut text = Front::new(output);
+        signs::write(&mut text, signs, usize::from(byte));
+        Some(Sheet {
+            bytes: text.len(),
+            due,
+        })
+    }
+
+    // A text in signs, with what is to come of it where that is written beside it.
+    fn text(self, i: usize) -> Option<(Option<Due>, &'static [u8])> {
+        let texts: &[(Due, &[u8])] = match self {
+            Group::Fields => &FIELDS,
+            Group::Quotes => &QUOTES,
+            Group::LineEnds => &LINE_ENDS,
+            Group::FieldCounts => &FIELD_COUNTS,
+            Group::Bytes => &BYTES,
+            Group::Values => &VALUES,
+            Group::Labels => &LABELS,
+            Group::Respelled => &RESPELLED,
+            Group::Long => &LONG,
+            Group::Held => &HELD,
+            Group::Full => &FULL,
+            Group::OneLeft => &ONE_LEFT,
+            Group::NotSound => &NOT_SOUND,
+            Group::AnyByte => return Some((None, *ANY_BYTE.get(i)?)),
+            Group::Small => return Some((None, *SMALL.get(i)?)),
+        };
+        let (due, signs) = *texts.get(i)?;
+        Some((Some(due), signs))
+    }
+}
+
+const FIELDS: [(Due, &[u8]); 50] = [
+    (Taken(0), b""),
+    (Taken(1), b"a,1"),
+    (Taken(1), b"a,1/"),
+    (Taken(2), b"a,1/b,2"),
+    (Taken(2), b"a,1/b,2/"),
+    (Taken(3), b"b,2/a,1/c,3"),
+    (Taken(1), b"'a',1"),
+    (Taken(1), b"'a',1/"),
+    (Taken(1), b"a,'1'"),
+    (Taken(1), b"a,'1'/"),
+    (Taken(1), b"'a','1'"),
+    (Taken(1), b"'a','1'/"),
+    (Taken(2), b"'a',1/'b','2'/"),
+    (Taken(3), b"a,'1'/'b',2/c,3"),
+    (Taken(1), b"a b,1/"),
+    (Taken(1), b" a,1/"),
+    (Taken(1), b"a ,1/"),
+    (Taken(1), b" ,1/"),
+    (Taken(1), b"' ',1/"),
+    (Taken(2), b"a,1/ a,1/"),
+    (Taken(1), b" !()*+-.:=>A~,1/"),
+    (Taken(1), b"' !()*+-.:=>A~',1/"),
+    (Taken(1), b"'a,b',1/"),
+    (Taken(1), b"',',1/"),
+    (Taken(1), b"',,,',1"),
+    (Taken(1), b"'a,1',2/"),
+    (Taken(1), b"'/',1/"),
+    (Taken(1), b"'a/b',1/"),
+    (Taken(1), b"'//',1"),
+    (Taken(1), b"'<',1/"),
+    (Taken(1), b"';',1/"),
+    (Taken(1), b"';<',1/"),
+    (Taken(1), b"'a;',1/"),
+    (Taken(1), b"'/a,1/',2/"),
+    (Taken(2), b"'a/b',1/a,2/"),
+    (Taken(1), b"'''',1/"),
+    (Taken(1), b"'''''',1/"),
+    (Taken(1), b"'a''b',1/"),
+    (Taken(1), b"'''a''',1/"),
+    (Taken(1), b"'a''',1/"),
+    (Taken(1), b"'''a',1/"),
+    (Taken(1), b"''',''',1/"),
+    (Taken(1), b"'''/''',1/"),
+    (Taken(2), b"'''',1/'''''','2'/"),
+    (Taken(1), b"',''<;/',65535"),
+    (Taken(2), b"''',''',1/',''',2/"),
+    (Taken(1), b"'a''''b',1"),
+    (Taken(2), b"1,1/2,2/"),
+    (Taken(1), b"01,1/"),
+    (Taken(1), b"label,0/"),
+];
+
+const QUOTES: [(Due, &[u8]); 43] = [
+    (Refused(1, BrokenRecord), b"a'b,1/"),
+    (Refused(1, BrokenRecord), b"a',1/"),
+    (Refused(1, BrokenRecord), b"a'',1/"),
+    (Refused(1, BrokenRecord), b"a'b',1/"),
+    (Refused(1, BrokenRecord), b"a'b'c,1/"),
+    (Refused(1, BrokenRecord), b" 'a',1/"),
+    (Refused(1, BrokenRecord), b"a''b,1/"),
+    (Refused(1, BrokenRecord), b"'a' ,1/"),
+    (Refused(1, BrokenRecord), b"'a'b,1/"),
+    (Refused(1, BrokenRecord), b"'a'b',1/"),
+    (Refused(1, BrokenRecord), b"'a'1/"),
+    (Refused(1, BrokenRecord), b"'a'<,1/"),
+    (Refused(1, BrokenRecord), b"'a';,1/"),
+    (Refused(1, BrokenRecord), b"'a'\x00,1/"),
+    (Refused(1, BrokenRecord), b"''a,1/"),
+    (Refused(1, BrokenRecord), b"'a"),
+    (Refused(1, BrokenRecord), b"'a,1/"),
+    (Refused(1, BrokenRecord), b"'a,1/b,2/"),
+    (Refused(1, BrokenRecord), b"'"),
+    (Refused(1, BrokenRecord), b"'''"),
+    (Refused(1, BrokenRecord), b"'a'',1/"),
+    (Refused(1, BrokenRecord), b"',1/"),
+    (Refused(1, BrokenRecord), b"'/"),
+    (Refused(1, BrokenRecord), b"'''',''1/"),
+    (Refused(1, BrokenRecord), b"a,1'/"),
+    (Refused(1, BrokenRecord), b"a,1'2'/"),
+    (Refused(1, BrokenRecord), b"a,'1/"),
+    (Refused(1, BrokenRecord), b"a,'1'2/"),
+    (Refused(1, BrokenRecord), b"a,'1' /"),
+    (Refused(1, BrokenRecord), b"a, '1'/"),
+    (Refused(1, BrokenRecord), b"a,'1'''/"),
+    (Refused(1, BrokenRecord), b"a,1''/"),
+    (Refused(1, BrokenRecord), b"a,'1"),
+    (Refused(1, BrokenRecord), b"a,'"),
+    (Refused(1, BrokenRecord), b"a,''1"),
+    (Refused(1, BrokenRecord), b"a,'1'<"),
+    (Refused(1, BrokenRecord), b"a,'1';"),
+    (Refused(1, BrokenRecord), b"a,'1'</"),
+    (Refused(2, BrokenRecord), b"a,1/'b,2/c,3/"),
+    (Refused(2, BrokenRecord), b"a,1/b',2/c,3/"),
+    (Refused(2, BrokenRecord), b"a,1/'b'c,2/"),
+    (Refused(2, BrokenRecord), b"a,1/b,2'/"),
+    (Refused(3, BrokenRecord), b"a,1/b,2/c,'3"),
+];
+
+const LINE_ENDS: [(Due, &[u8]); 42] = [
+    (Refused(1, BrokenRecord), b"a,1;"),
+    (Refused(1, BrokenRecord), b"a,1;b,2;"),
+    (Refused(1, BrokenRecord), b"a,1;b,2/"),
+    (Refused(1, BrokenRecord), b"a,1;/"),
+    (Refused(1, BrokenRecord), b"a,'1';b,2/"),
+    (Refused(1, BrokenRecord), b"a,1<"),
+    (Refused(1, BrokenRecord), b"a,1<b,2/"),
+    (Refused(1, BrokenRecord), b"a,1<b,2<"),
+    (Refused(1, BrokenRecord), b"a,1<</"),
+    (Refused(1, BrokenRecord), b"a,1;<"),
+    (Refused(1, BrokenRecord), b"a,1<,/"),
+    (Refused(1, BrokenRecord), b"a,'1'<b,2/"),
+    (Refused(1, BrokenRecord), b"a;,1/"),
+    (Refused(1, BrokenRecord), b"a<,1/"),
+    (Refused(1, BrokenRecord), b";a,1/"),
+    (Refused(1, BrokenRecord), b"<a,1/"),
+    (Refused(1, BrokenRecord), b"a,;1/"),
+    (Refused(1, BrokenRecord), b"a,<1/"),
+    (Refused(1, BrokenRecord), b"a/,1/"),
+    (Refused(1, BrokenRecord), b"a,/1/"),
+    (Refused(1, BrokenRecord), b"/"),
+    (Refused(1, BrokenRecord), b"//"),
+    (Refused(1, BrokenRecord), b"/a,1/"),
+    (Refused(1, BrokenRecord), b";"),
+    (Refused(1, BrokenRecord), b"<"),
+    (Refused(1, BrokenRecord), b";a,1"),
+    (Refused(1, BrokenRecord), b"<;<;"),
+    (Refused(1, BrokenRecord), b";</"),
+    (Refused(2, BrokenRecord), b"a,1//"),
+    (Refused(2, BrokenRecord), b"a,1//b,2/"),
+    (Refused(2, BrokenRecord), b"a,1/;"),
+    (Refused(2, BrokenRecord), b"a,1/<"),
+    (Refused(2, BrokenRecord), b"a,1/ "),
+    (Refused(2, BrokenRecord), b"a,1/ /"),
+    (Refused(2, BrokenRecord), b"a,1/<b,2/"),
+    (Refused(2, BrokenRecord), b"a,1/;b,2/"),
+    (Refused(3, BrokenRecord), b"a,1/b,2//"),
+    (Refused(3, BrokenRecord), b"a,1/b,2//c,3/"),
+    (Refused(3, BrokenRecord), b"a,1/b,2/;c,3/"),
+    (Refused(2, BrokenRecord), b"a,1/b,2<"),
+    (Refused(2, BrokenRecord), b"a,1/b,2;"),
+    (Refused(3, BrokenRecord), b"a,1/b,2/c,3<"),
+];
+
+const FIELD_COUNTS: [(Due, &[u8]); 46] = [
+    (Refused(1, BrokenRecord), b"a"),
+    (Refused(1, BrokenRecord), b"a/"),
+    (Refused(1, BrokenRecord), b"'a'"),
+    (Refused(1, BrokenRecord), b"'a'/"),
+    (Refused(1, BrokenRecord), b"1"),
+    (Refused(1, BrokenRecord), b"1/"),
+    (Refused(1, BrokenRecord), b"a 1/"),
+    (Refused(1, BrokenRecord), b"a\t1/"),
+    (Refused(1, BrokenRecord), b"a:1/"),
+    (Refused(1, BrokenRecord), b"'a,1'/"),
+    (Refused(1, BrokenRecord), b"''/"),
+    (Refused(1, BrokenRecord), b"a,1,2"),
+    (Refused(1, BrokenRecord), b"a,1,2/"),
+    (Refused(1, BrokenRecord), b"a,1,/"),
+    (Refused(1, BrokenRecord), b"a,1,"),
+    (Refused(1, BrokenRecord), b",a,1/"),
+    (Refused(1, BrokenRecord), b"a,,1/"),
+    (Refused(1, BrokenRecord), b"'a','1','2'/"),
+    (Refused(1, BrokenRecord), b"a,1,''/"),
+    (Refused(1, BrokenRecord), b"a,1,2,3/"),
+    (Refused(1, BrokenRecord), b",,/"),
+    (Refused(1, BrokenRecord), b",,,"),
+    (Refused(1, BrokenRecord), b"a,1,,/"),
+    (Refused(1, BrokenRecord), b"1,1,1"),
+    (Refused(1, BrokenRecord), b"a,1,'/"),
+    (Refused(1, BrokenRecord), b"label,value/"),
+    (Refused(1, BrokenRecord), b"label,value/a,1/"),
+    (Refused(1, BrokenRecord), b"'label','value'/a,1/"),
+    (Refused(1, BrokenRecord), b"Name,Strap/a,1/"),
+    (Refused(1, BrokenRecord), b"label/a,1/"),
+    (Refused(1, BrokenRecord), b"\xef\xbb\xbfa,1/"),
+    (Refused(1, BrokenRecord), b"\xef\xbb\xbf'a',1/"),
+    (Refused(1, BrokenRecord), b"\xef\xbb\xbf"),
+    (Refused(1, BrokenRecord), b"\xff\xfea,1/"),
+    (Refused(1, BrokenRecord), b"sep=,/a,1/"),
+    (Refused(2, BrokenRecord), b"a,1/b"),
+    (Refused(2, BrokenRecord), b"a,1/b/"),
+    (Refused(2, BrokenRecord), b"a,1/b/c,3/"),
+    (Refused(2, BrokenRecord), b"a,1/b,2,3/"),
+    (Refused(2, BrokenRecord), b"a,1/b,2,/"),
+    (Refused(2, BrokenRecord), b"a,1/,b,2/"),
+    (Refused(2, BrokenRecord), b"a,1/label,value/b,2/"),
+    (Refused(2, BrokenRecord), b"a,1/b,"),
+    (Refused(2, BrokenRecord), b"a,1/,"),
+    (Refused(2, BrokenRecord), b"a,1/,/"),
+    (Refused(3, BrokenRecord), b"a,1/b,2/c,3,4/"),
+];
+
+const BYTES: [(Due, &[u8]); 33] = [
+    (Refused(1, BrokenRecord), b"\t,1/"),
+    (Refused(1, BrokenRecord), b"'\t',1/"),
+    (Refused(1, BrokenRecord), b"a\tb,1/"),
+    (Refused(1, BrokenRecord), b"'a\tb',1/"),
+    (Refused(1, BrokenRecord), b"a,\t1/"),
+    (Refused(1, BrokenRecord), b"a,1\t/"),
+    (Refused(1, BrokenRecord), b"\x00,1/"),
+    (Refused(1, BrokenRecord), b"'\x00',1/"),
+    (Refused(1, BrokenRecord), b"a,1\x00/"),
+    (Refused(1, BrokenRecord), b"a,1\x00"),
+    (Refused(1, BrokenRecord), b"\x1f,1/"),
+    (Refused(1, BrokenRecord), b"'\x1f',1/"),
+    (Refused(1, BrokenRecord), b"'\x0b\x0c',1/"),
+    (Refused(1, BrokenRecord), b"\x1a"),
+    (Refused(1, BrokenRecord), b"\x7f,1/"),
+    (Refused(1, BrokenRecord), b"'\x7f',1/"),
+    (Refused(1, BrokenRecord), b"a,\x7f/"),
+    (Refused(1, BrokenRecord), b"a,1\x7f"),
+    (Refused(1, BrokenRecord), b"\x80,1/"),
+    (Refused(1, BrokenRecord), b"'\x80',1/"),
+    (Refused(1, BrokenRecord), b"\xff,1/"),
+    (Refused(1, BrokenRecord), b"'\xff',1/"),
+    (Refused(1, BrokenRecord), b"J\xc3\xbcrg,1/"),
+    (Refused(1, BrokenRecord), b"'J\xc3\xbcrg',1/"),
+    (Refused(1, BrokenRecord), b"J\xfcrg,1/"),
+    (Refused(1, BrokenRecord), b"a,\xb1/"),
+    (Refused(1, BrokenRecord), b"a\xa0b,1/"),
+    (Refused(1, BrokenRecord), b"'a\xa0b',1/"),
+    (Refused(2, BrokenRecord), b"a,1/b\xe9,2/"),
+    (Refused(2, BrokenRecord), b"a,1/'b\xe9',2/"),
+    (Refused(2, BrokenRecord), b"a,1/\x1a"),
+    (Refused(2, BrokenRecord), b"a,1/\x00"),
+    (Refused(3, BrokenRecord), b"a,1/b,2/\x7f,3/c,4/"),
+];
+
+const VALUES: [(Due, &[u8]); 62] = [
+    (Taken(1), b"a,0"),
+    (Taken(1), b"a,0/"),
+    (Taken(1), b"a,'0'/"),
+    (Taken(1), b"a,9/"),
+    (Taken(1), b"a,10"),
+    (Taken(1), b"a,256/"),
+    (Taken(1), b"a,9999/"),
+    (Taken(1), b"a,60000/"),
+    (Taken(1), b"a,65535"),
+    (Taken(1), b"a,65535/"),
+    (Taken(1), b"a,'65535'/"),
+    (Refused(1, BrokenRecord), b"a,65536"),
+    (Refused(1, BrokenRecord), b"a,65536/"),
+    (Refused(1, BrokenRecord), b"a,'65536'/"),
+    (Refused(1, BrokenRecord), b"a,65537/"),
+    (Refused(1, BrokenRecord), b"a,65540/"),
+    (Refused(1, BrokenRecord), b"a,66000/"),
+    (Refused(1, BrokenRecord), b"a,70000/"),
+    (Refused(1, BrokenRecord), b"a,99999/"),
+    (Refused(1, BrokenRecord), b"a,100000/"),
+    (Refused(1, BrokenRecord), b"a,131072/"),
+    (Refused(1, BrokenRecord), b"a,655350/"),
+    (Refused(1, BrokenRecord), b"a,4294967296/"),
+    (Refused(1, BrokenRecord), b"a,4294967297/"),
+    (Refused(1, BrokenRecord), b"a,18446744073709551616/"),
+    (Refused(1, BrokenRecord), b"a,18446744073709551617/"),
+    (Refused(1, BrokenRecord), b"a,$/"),
+    (Refused(1, BrokenRecord), b"a,'$'/"),
+    (Refused(1, BrokenRecord), b"a,$$$$$$$$$$$$$$$$/"),
+    (Refused(1, BrokenRecord), b"a,00/"),
+    (Refused(1, BrokenRecord), b"a,01/"),
+    (Refused(1, BrokenRecord), b"a,007/"),
+    (Refused(1, BrokenRecord), b"a,'007'/"),
+    (Refused(1, BrokenRecord), b"a,00000/"),
+    (Refused(1, BrokenRecord), b"a,065535/"),
+    (Refused(1, BrokenRecord), b"a,%/"),
+    (Refused(1, BrokenRecord), b"a,%1/"),
+    (Refused(1, BrokenRecord), b"a,'%1'"),
+    (Refused(1, BrokenRecord), b"a,/"),
+    (Refused(1, BrokenRecord), b"a,"),
+    (Refused(1, BrokenRecord), b"a,''/"),
+    (Refused(1, BrokenRecord), b"a,''"),
+    (Refused(1, BrokenRecord), b"a, /"),
+    (Refused(1, BrokenRecord), b"a, 1/"),
+    (Refused(1, BrokenRecord), b"a,1 /"),
+    (Refused(1, BrokenRecord), b"a,1 2/"),
+    (Refused(1, BrokenRecord), b"a,' 1'/"),
+    (Refused(1, BrokenRecord), b"a,''''/"),
+    (Refused(1, BrokenRecord), b"a,'1''2'/"),
+    (Refused(1, BrokenRecord), b"a,'''1'/"),
+    (Refused(1, BrokenRecord), b"a,'''1'''/"),
+    (Refused(1, BrokenRecord), b"a,'1,2'/"),
+    (Refused(1, BrokenRecord), b"a,'1/'/"),
+    (Refused(1, BrokenRecord), b"a,'/1'/"),
+    (Refused(1, BrokenRecord), b"a,'1;'/"),
+    (Refused(1, BrokenRecord), b"a,+1/"),
+    (Refused(1, BrokenRecord), b"a,-1/"),
+    (Refused(1, BrokenRecord), b"a,-0/"),
+    (Refused(1, BrokenRecord), b"a,1.0/"),
+    (Refused(1, BrokenRecord), b"a,1e3/"),
+    (Refused(1, BrokenRecord), b"a,0x1/"),
+    (Refused(1, BrokenRecord), b"a,x/"),
+];
+
+const LABELS: [(Due, &[u8]); 58] = [
+    (Refused(1, EmptyLabel), b",1"),
+    (Refused(1, EmptyLabel), b",1/"),
+    (Refused(1, EmptyLabel), b",'1'/"),
+    (Refused(1, EmptyLabel), b"'',1/"),
+    (Refused(1, EmptyLabel), b"'','1'"),
+    (Refused(1, EmptyLabel), b",0/"),
+    (Refused(1, EmptyLabel), b",65535/a,1/"),
+    (Refused(2, EmptyLabel), b"a,1/,2/"),
+    (Refused(2, EmptyLabel), b"a,1/'',2/b,3/"),
+    (Taken(1), b"{,1/"),
+    (Taken(1), b"{m,1/"),
+    (Taken(1), b"'{m',1/"),
+    (Taken(1), b"'{,',1"),
+    (Taken(1), b"'{;',1/"),
+    (Refused(1, LongLabel), b"'{/',1/"),
+    (Refused(1, LongLabel), b"{mm,1/"),
+    (Refused(1, LongLabel), b"'{mm',1/"),
+    (Refused(1, LongLabel), b"'{/m',1"),
+    (Refused(1, LongLabel), b"${,1/"),
+    (Refused(1, LongLabel), b"$$$$$$$$$$,1"),
+    (Taken(1), b"'}''',1/"),
+    (Taken(1), b"'}m',1/"),
+    (Taken(1), b"'m}',1/"),
+    (Refused(1, LongLabel), b"'}''''',1/"),
+    (Refused(1, LongLabel), b"'}mm',1/"),
+    (Refused(1, LongLabel), b"'}''m',1/"),
+    (Refused(1, LongLabel), b"'}}',1/"),
+    (Refused(1, LongLabel), b"'}}}}}}}}',1"),
+    (Refused(2, LongLabel), b"a,1/{mm,2/"),
+    (Refused(2, LongLabel), b"a,1/'}''m',2/b,3/"),
+    (Taken(2), b"{m,1/{n,2/"),
+    (Taken(2), b"{,1/{m,2/"),
+    (Refused(1, BrokenRecord), b","),
+    (Refused(1, BrokenRecord), b",/"),
+    (Refused(1, BrokenRecord), b",x/"),
+    (Refused(1, BrokenRecord), b",65536/"),
+    (Refused(1, BrokenRecord), b"'',01/"),
+    (Refused(1, BrokenRecord), b",1,2/"),
+    (Refused(1, BrokenRecord), b",1;"),
+    (Refused(1, BrokenRecord), b",1<"),
+    (Refused(1, BrokenRecord), b"'',''/"),
+    (Refused(1, BrokenRecord), b"''1,1/"),
+    (Refused(1, BrokenRecord), b"{mm,x/"),
+    (Refused(1, BrokenRecord), b"{mm,65536/"),
+    (Refused(1, BrokenRecord), b"{mm,1<"),
+    (Refused(1, BrokenRecord), b"{mm/"),
+    (Refused(1, BrokenRecord), b"{mm,1,1/"),
+    (Refused(1, BrokenRecord), b"'{mm'm,1/"),
+    (Refused(1, BrokenRecord), b"'}''m,1/"),
+    (Refused(1, BrokenRecord), b"{mm,%1/"),
+    (Refused(1, EmptyLabel), b",1/a"),
+    (Refused(1, EmptyLabel), b",1//"),
+    (Refused(1, EmptyLabel), b",1/,x/"),
+    (Refused(1, LongLabel), b"{mm,1/a"),
+    (Refused(1, LongLabel), b"{mm,1/,x/"),
+    (Refused(2, EmptyLabel), b"a,1/,1/x"),
+    (Refused(2, BrokenRecord), b"a,1/,x/"),
+    (Refused(2, BrokenRecord), b"a,1/{mm,x/"),
+];
+
+const RESPELLED: [(Due, &[u8]); 32] = [
+    (Refused(2, AlreadyHeld), b"a,1/a,1/"),
+    (Refused(2, AlreadyHeld), b"a,1/a,2/"),
+    (Refused(2, AlreadyHeld), b"a,1/A,2/"),
+    (Refused(2, AlreadyHeld), b"A,1/a,2"),
+    (Refused(2, AlreadyHeld), b"'a',1/a,1/"),
+    (Refused(2, AlreadyHeld), b"a,1/'A',1"),
+    (Refused(2, AlreadyHeld), b"a,1/a,'2'"),
+    (Refused(3, AlreadyHeld), b"U16 anna,1/b,2/U16 Anna,3/"),
+    (Refused(3, AlreadyHeld), b"a,1/b,2/A,3/c,4/"),
+    (Refused(2, AlreadyHeld), b"'a''b',1/'A''B',2/"),
+    (Refused(2, AlreadyHeld), b"'/',1/'/',2/"),
+    (Refused(2, AlreadyHeld), b"'''',1/'''',2"),
+    (Refused(2, AlreadyHeld), b"{m,1/'{M',2/"),
+    (Refused(2, AlreadyHeld), b"'}''',1/'}''',2/"),
+    (Refused(2, AlreadyHeld), b"a,1/A,2/x"),
+    (Refused(2, AlreadyHeld), b"a,1/A,2//"),
+    (Refused(2, AlreadyHeld), b"a,1/A,2/,3/"),
+    (Refused(2, BrokenRecord), b"a,1/A,x/"),
+    (Refused(2, BrokenRecord), b"a,1/a,01/"),
+    (Refused(2, BrokenRecord), b"a,1/A"),
+    (Refused(2, BrokenRecord), b"a,1/A,2,3/"),
+    (Refused(2, BrokenRecord), b"a,1/A,2;"),
+    (Refused(2, BrokenRecord), b"a,1/A,2<"),
+    (Refused(2, BrokenRecord), b"a,1/'A,2/"),
+    (Taken(2), b"a,1/a ,1/"),
+    (Taken(2), b"a,1/ a,1/"),
+    (Taken(2), b"a,1/aa,2/"),
+    (Taken(2), b"_,1/Z,2/"),
+    (Taken(2), b"a,1/'a''',2/"),
+    (Taken(2), b"'/',1/'<',2/"),
+    (Taken(2), b"{,1/{m,2/"),
+    (Taken(3), b"_,1/Z,2/`,3"),
+];
+
+const LONG: [(Due, &[u8]); 39] = [
+    (Refused(1, LongLabel), b"x^,1/"),
+    (Refused(0, LongText), b"x^,12/"),
+    (Refused(1, LongLabel), b"x^x,1"),
+    (Refused(0, LongText), b"x^xx,1/"),
+    (Refused(1, BrokenRecord), b"x^xxxx"),
+    (Refused(0, LongText), b"x^xxxxx"),
+    (Refused(1, BrokenRecord), b"x^xxx"),
+    (Refused(1, BrokenRecord), b"a,1^1/"),
+    (Refused(1, BrokenRecord), b"a,0^01/"),
+    (Refused(0, LongText), b"a,1^111/"),
+    (Refused(1, BrokenRecord), b"a,1^1111"),
+    (Refused(1, BrokenRecord), b"a,1^11"),
+    (Refused(1, BrokenRecord), b"a,'1^1'/"),
+    (Refused(0, LongText), b"a,'1^11'/"),
+    (Refused(1, BrokenRecord), b"'x^xxxx"),
+    (Refused(0, LongText), b"'x^xxxxx"),
+    (Refused(1, LongLabel), b"'x^',1"),
+    (Refused(0, LongText), b"'x^',1/"),
+    (Refused(1, LongLabel), b"'^'',1"),
+    (Refused(1, BrokenRecord), b"'^''''"),
+    (Refused(0, LongText), b"'^'''''"),
+    (Refused(1, BrokenRecord), b";^;;;;"),
+    (Refused(1, BrokenRecord), b"<^<<<<"),
+    (Refused(1, BrokenRecord), b",^,,,,"),
+    (Refused(0, LongText), b",^,,,,,"),
+    (Refused(1, BrokenRecord), b" ^    "),
+    (Refused(1, EmptyLabel), b",1/x^xxxx"),
+    (Refused(1, BrokenRecord), b"/^xxxx"),
+    (Refused(2, LongLabel), b"a,1/x^,1/"),
+    (Refused(2, BrokenRecord), b"a,1/x^xxxx"),
+    (Refused(2, BrokenRecord), b"a,1/b,2^2222"),
+    (Refused(0, LongText), b"a,1/x^xxxxx"),
+    (Refused(2, AlreadyHeld), b"a,1/a,2/x^xxxx"),
+    (Refused(3, BrokenRecord), b"a,1/b,2/x^xxxx"),
+    (Refused(2, BrokenRecord), b"a,1/'x^'xxx"),
+    (Refused(3, LongLabel), b"a,1/b,2/x^,3/"),
+    (Refused(0, LongText), b"$$$$$$$$$$$$$$$$$"),
+    (Refused(0, LongText), b"a,1/x^$$$$$$$$$$$$$$$$"),
+    (Refused(0, LongText), b",1/x^xxxxx"),
+];
+
+const HELD: [(Due, &[u8]); 24] = [
+    (Taken(0), b""),
+    (Refused(1, AlreadyHeld), b"s-1003,1/"),
+    (Refused(1, AlreadyHeld), b"'s-1003',1"),
+    (Refused(1, AlreadyHeld), b"S-1003,1/"),
+    (Refused(1, AlreadyHeld), b"'s-1000',1/"),
+    (Refused(1, AlreadyHeld), b"s-1007,1/a,1/"),
+    (Refused(2, AlreadyHeld), b"a,1/s-1003,2/"),
+    (Refused(2, AlreadyHeld), b"s-1002,1/S-1003,2/"),
+    (Refused(3, AlreadyHeld), b"s-1005,1/s-1002,2/s-1001,3"),
+    (Taken(1), b"s-1002,1/"),
+    (Taken(2), b"s-1005,1/s-1002,2/"),
+    (Taken(2), b"s-1002,1/s-1005,2"),
+    (Taken(3), b"s-1002,1/s-1005,2/s-1008,3/"),
+    (Taken(4), b"a,1/b,2/c,3/d,4/"),
+    (Refused(2, AlreadyHeld), b"s-1002,1/s-1002,2/"),
+    (Refused(1, BrokenRecord), b"s-1003,x/"),
+    (Refused(1, BrokenRecord), b"s-1003"),
+    (Refused(1, BrokenRecord), b"s-1003,1,1/"),
+    (Refused(1, BrokenRecord), b"s-1003,1;"),
+    (Refused(1, EmptyLabel), b",1/"),
+    (Refused(1, LongLabel), b"{mm,1/"),
+    (Refused(2, BrokenRecord), b"s-1002,1/s-1003,x/"),
+    (Refused(2, EmptyLabel), b"s-1002,1/,2/"),
+    (Refused(2, LongLabel), b"s-1002,1/{mm,2"),
+];
+
+const FULL: [(Due, &[u8]); 16] = [
+    (Taken(0), b""),
+    (Refused(1, Full), b"a,1/"),
+    (Refused(1, Full), b"'a',1"),
+    (Refused(1, Full), b"a,1/b,x/"),
+    (Refused(1, Full), b"a,1/,1/"),
+    (Refused(1, Full), b"{m,1/"),
+    (Refused(1, AlreadyHeld), b"s-1003,1/"),
+    (Refused(1, AlreadyHeld), b"'S-1003',1/"),
+    (Refused(1, AlreadyHeld), b"s-1003,1/a,1/"),
+    (Refused(1, BrokenRecord), b"a,x/"),
+    (Refused(1, BrokenRecord), b"a"),
+    (Refused(1, BrokenRecord), b"a,1;"),
+    (Refused(1, BrokenRecord), b"s-1003,x"),
+    (Refused(1, EmptyLabel), b",1/"),
+    (Refused(1, LongLabel), b"{mm,1/"),
+    (Refused(0, LongText), b"x^xxxxx"),
+];
+
+const ONE_LEFT: [(Due, &[u8]); 15] = [
+    (Taken(0), b""),
+    (Taken(1), b"a,1/"),
+    (Taken(1), b"s-1005,1/"),
+    (Refused(2, Full), b"a,1/b,2/"),
+    (Refused(2, Full), b"s-1005,1/b,2/"),
+    (Refused(2, Full), b"a,1/s-1005,2/c,3"),
+    (Refused(2, AlreadyHeld), b"a,1/A,2/"),
+    (Refused(2, AlreadyHeld), b"a,1/s-1003,2/"),
+    (Refused(1, AlreadyHeld), b"s-1003,1/a,1/"),
+    (Refused(2, BrokenRecord), b"a,1/b,x/"),
+    (Refused(2, BrokenRecord), b"a,1/s-1003,x/"),
+    (Refused(2, EmptyLabel), b"a,1/,2/"),
+    (Refused(2, LongLabel), b"a,1/{mm,2/"),
+    (Refused(1, BrokenRecord), b"a"),
+    (Refused(2, BrokenRecord), b"a,1/b"),
+];
+
+const NOT_SOUND: [(Due, &[u8]); 18] = [
+    (Taken(0), b""),
+    (Refused(1, NotSound), b"a,1/"),
+    (Refused(1, NotSound), b"'a','1'"),
+    (Refused(1, NotSound), b"s-1003,1/"),
+    (Refused(1, NotSound), b"{m,1/"),
+    (Refused(1, NotSound), b"a,1/b"),
+    (Refused(1, NotSound), b"a,1/,1/"),
+    (Refused(1, NotSound), b"a,1/A,1/"),
+    (Refused(1, BrokenRecord), b"a"),
+    (Refused(1, BrokenRecord), b"a,x/"),
+    (Refused(1, BrokenRecord), b",x"),
+    (Refused(1, BrokenRecord), b"{mm,x/"),
+    (Refused(1, BrokenRecord), b"a,1;"),
+    (Refused(1, EmptyLabel), b",1/"),
+    (Refused(1, EmptyLabel), b"'',1/"),
+    (Refused(1, LongLabel), b"{mm,1/"),
+    (Refused(1, LongLabel), b"'}''m',1/"),
+    (Refused(0, LongText), b"x^xxxxx"),
+];
+
+const ANY_BYTE: [&[u8]; 20] = [
+    b"?,1/",
+    b"a?b,1/c,2/",
+    b"'?',1/",
+    b"'a?b',1/c,2/",
+    b"'a'?,1/",
+    b"?'a',1/",
+    b"a?1/",
+    b"a,?/",
+    b"a,?1/",
+    b"a,1?/",
+    b"a,'1?'/",
+    b"a,'1'?/",
+    b"a,6?535/",
+    b"a,6553?",
+    b"a,1?b,2/",
+    b"a,1<?b,2/",
+    b"a,1?;b,2/",
+    b"a,1/?",
+    b"a,1/b?2/",
+    b"?",
+];
+
+const SMALL: [&[u8]; 5] = [
+    b"anna,1/Bert,22/cleo,333/dora,65535/",
+    b"'a''b',1/'c,d','20'/'e/f',300/g,'0'",
+    b"a,9/'',1/b,2/",
+    b"s-1003,1/s-1004,2/s-1002,3/",
+    b"'b',1/'a',1/c,10/A,1/",
+];

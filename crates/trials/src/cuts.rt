@@ -5,7 +5,8 @@ use images::outputs;
 use images::outputs::Output;
 use plainmap::{PlainMap, files};
 use plans::bytes;
-use plans::planned::ANY_REFUSAL;
+use plans::bytes::Way;
+use plans::planned::Due;
 use reports::Report;
 use reports::tallies::{Group, Tally};
 use samples::numbers;
@@ -15,8 +16,8 @@ use std::io::Stdout;
 
 // Makes the loads for each shape, and prints two lines for each; the hub's index alone has them.
 pub fn run(out: Stdout, image: &Image) -> io::Result<()> {
-    for i in 0..bytes::SHAPES {
-        run_shape(out, image, bytes::shape(i))?;
+    for shape in bytes::SHAPES {
+        run_shape(out, image, shape)?;
     }
     Ok(())
 }
@@ -55,7 +56,7 @@ fn write(file: &mut Output, shape: Shape) -> usize {
 fn cut_short(report: &mut Report<Tally>, image: &Image, file: &Output, n: usize) -> io::Result<()> {
     for end in 0..n.wrapping_add(2) {
         report.tally.changes.add_if(end != n);
-        loading::tried(report, image, file, end, ANY_REFUSAL)?;
+        loading::tried(report, image, file, end, Due::Judged)?;
     }
     Ok(())
 }
@@ -68,12 +69,12 @@ fn change_each(
     n: usize,
 ) -> io::Result<()> {
     for at in 0..n.min(outputs::ALL) {
-        for way in 0..bytes::WAYS {
+        for way in Way::ALL {
             let mut copy = *file;
-            copy[at] = (bytes::changed(usize::from(file[at]), at, way) % 256) as u8;
+            copy[at] = way.changed(file[at], at);
             if copy != *file {
                 report.tally.changes.add(1);
-                loading::tried(report, image, &copy, n, ANY_REFUSAL)?;
+                loading::tried(report, image, &copy, n, Due::Judged)?;
             }
         }
     }

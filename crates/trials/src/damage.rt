@@ -3,8 +3,8 @@ use crate::{saving, sequences};
 use comparisons::Request;
 use images::memory::Image;
 use plans::changes;
-use plans::changes::{KINDS, OLD};
-use plans::planned::ANY_REFUSAL;
+use plans::changes::Kind;
+use plans::planned::Due;
 use reports::Report;
 use reports::tallies::{Group, Tally};
 use samples::calls::Call;
@@ -19,15 +19,15 @@ pub const ALL_CALLS: usize = 10;
 // Makes the changes of each kind on a table of a shape, and prints a line for each, and for the saves of all.
 pub fn run(out: Stdout, image: &Image, shape: Shape) -> io::Result<()> {
     let mut saves = Report::new(out);
-    for kind in 0..KINDS {
-        let n = changes::times(shape, kind);
+    for kind in Kind::ALL {
+        let n = kind.times(shape);
         if n > 0 {
             let mut report = Report::new(out);
             change_all(&mut report, &mut saves, image, shape, kind, n)?;
             report.print_damage(Group {
                 page: image.is_page(),
                 shape,
-                name: name(kind),
+                name: kind.name(),
             })?;
         }
     }
@@ -41,29 +41,12 @@ pub fn run(out: Stdout, image: &Image, shape: Shape) -> io::Result<()> {
     Ok(())
 }
 
-fn name(kind: usize) -> &'static str {
-    match kind {
-        0 => "one word",
-        1 => "two words",
-        2 => "three words",
-        changes::BYTE => "one byte",
-        changes::ROWS => "two rows",
-        changes::FREED => "freed slots",
-        changes::CYCLE => "cycles",
-        changes::PATH => "paths",
-        OLD => "old",
-        changes::FIELDS => "fields",
-        changes::CHARGE => "one charge",
-        _ => "charges",
-    }
-}
-
 fn change_all(
     report: &mut Report<Tally>,
     saves: &mut Report<Tally>,
     image: &Image,
     shape: Shape,
-    kind: usize,
+    kind: Kind,
     n: usize,
 ) -> io::Result<()> {
     let mut seed = numbers::SEED;
@@ -80,13 +63,13 @@ fn change(
     saves: &mut Report<Tally>,
     image: &Image,
     shape: Shape,
-    kind: usize,
+    kind: Kind,
     seed: u64,
 ) -> io::Result<()> {
     let mut draw = seed;
     for _ in 0..20 {
         let mut copy = *image;
-        if changes::make(image, &mut copy, kind, draw) {
+        if kind.make(image, &mut copy, draw) {
             saving::on_damaged(saves, &copy, draw)?;
             return call_all(report, &copy, shape, kind, draw);
         }
@@ -100,7 +83,7 @@ fn call_all(
     report: &mut Report<Tally>,
     image: &Image,
     shape: Shape,
-    kind: usize,
+    kind: Kind,
     seed: u64,
 ) -> io::Result<()> {
     report.tally.changes.add(1);
@@ -115,8 +98,8 @@ fn call_all(
 }
 
 // A label of the shape, and for an old table one that fits it.
-fn label_of(width: usize, shape: Shape, kind: usize, seed: u64) -> Label {
-    if kind == OLD {
+fn label_of(width: usize, shape: Shape, kind: Kind, seed: u64) -> Label {
+    if kind == Kind::Old {
         return old_label(width, shape, seed);
     }
     shape.label(width, numbers::below(seed, 80))
@@ -124,7 +107,7 @@ fn label_of(width: usize, shape: Shape, kind: usize, seed: u64) -> Label {
 
 // Three times of four a label that the table may hold, else any of letters.
 fn old_label(width: usize, shape: Shape, seed: u64) -> Label {
-    let draw = numbers::mixed_seed(seed, OLD);
+    let draw = numbers::mixed_seed(seed, Kind::Old as usize);
     let k = numbers::below(draw, 80);
     if numbers::below(numbers::next(draw), 4) == 0 {
         return Shape::Letters.label(width, k);
@@ -161,16 +144,16 @@ pub fn call(
         label,
         number,
     };
-    tried(report, image, request, ANY_REFUSAL)
+    tried(report, image, request, Due::Judged)
 }
 
-// Makes a call that is to have a refusal's number, and counts it.
+// Makes a call of which something is to come, and counts it.
 pub fn tried(
     report: &mut Report<Tally>,
     image: &Image,
     request: Request,
-    refusal: usize,
+    due: Due,
 ) -> io::Result<()> {
-    let round = sequences::as_named(rounds::tried(image, request), refusal);
+    let round = sequences::as_due(rounds::tried(image, request), due);
     report.count_tried(request.call, request.label, round)
 }

@@ -3,6 +3,7 @@ use crate::damage;
 use comparisons::Request;
 use images::memory::Image;
 use plans::edges;
+use plans::edges::Memory;
 use plans::planned::Planned;
 use reports::Report;
 use reports::tallies::{Group, Tally};
@@ -13,12 +14,13 @@ use std::io::Stdout;
 // Makes the calls on a table that holds a roster but for its first label; the hub's index alone has them.
 pub fn run(out: Stdout, image: &Image) -> io::Result<()> {
     let mut report = Report::<Tally>::new(out);
-    for k in edges::CALLS..edges::MEMORIES * edges::CALLS {
-        let state = k / edges::CALLS;
+    for memory in Memory::REFUSED {
         let mut copy = *image;
-        edges::make(&mut copy, state);
-        report.tally.changes.add_if(copy != *image);
-        call(&mut report, &copy, edges::call(state, k % edges::CALLS))?;
+        memory.make(&mut copy);
+        for i in 0..edges::CALLS {
+            report.tally.changes.add_if(copy != *image);
+            call(&mut report, &copy, memory.call(i))?;
+        }
     }
     report.print_lent(Group {
         page: false,
@@ -32,7 +34,7 @@ fn call(report: &mut Report<Tally>, image: &Image, planned: Planned) -> io::Resu
     let request = Request {
         call: planned.call,
         label: label.as_slice(),
-        number: planned.charge,
+        number: planned.charge.unwrap_or(0),
     };
-    damage::tried(report, image, request, planned.refusal)
+    damage::tried(report, image, request, planned.due)
 }

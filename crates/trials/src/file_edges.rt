@@ -3,45 +3,40 @@
 use crate::{loading, saving, sequences};
 use images::memory::Image;
 use images::outputs;
+use images::refusals::Refusal;
 use plainmap::PlainMap;
-use plans::files::Edge;
-use plans::{files, lengths, planned};
+use plans::files::{Edge, Group};
+use plans::planned::{Due, Planned};
+use plans::{files, lengths};
 use reports::faults::Fault;
-use reports::tallies::{Group, Tally};
-use reports::{Report, Round};
+use reports::tallies::Tally;
+use reports::{Report, Round, tallies};
 use samples::calls::Call;
 use samples::charges;
 use std::io;
 use std::io::Stdout;
 
-// The groups' names.
-const NAMES: [&str; files::GROUPS] = ["empty", "values", "values", "counts", "full", "charged"];
-
 // Makes the tables of each group, and prints two lines for each; the hub's index alone has them.
 pub fn run(out: Stdout, image: &mut Image, map: &mut PlainMap) -> io::Result<()> {
-    for (group, name) in NAMES.iter().enumerate() {
-        run_group(out, image, map, group, name)?;
+    for group in Group::ALL {
+        run_group(out, image, map, group)?;
     }
     Ok(())
 }
 
-fn run_group(
-    out: Stdout,
-    image: &mut Image,
-    map: &mut PlainMap,
-    group: usize,
-    name: &str,
-) -> io::Result<()> {
+fn run_group(out: Stdout, image: &mut Image, map: &mut PlainMap, group: Group) -> io::Result<()> {
     let mut saves = Report::new(out);
     let mut loads = Report::new(out);
-    for i in 0..files::tables(group) {
-        make_table(&mut saves, image, map, files::table(group, i))?;
-        loading::at_edge(&mut loads, image, map)?;
+    for i in 0..files::TABLES {
+        if let Some(edge) = group.table(i) {
+            make_table(&mut saves, image, map, edge)?;
+            loading::at_edge(&mut loads, image, map)?;
+        }
     }
-    let line = Group {
+    let line = tallies::Group {
         page: false,
-        shape: files::shape(group),
-        name,
+        shape: group.shape(),
+        name: group.name(),
     };
     saves.print_edge_saves(line)?;
     loads.print_edge_loads(line)
@@ -57,14 +52,13 @@ fn make_table(
     sequences::empty(image, map);
     call_each(report, image, map, Call::Insert, edge)?;
     match edge.then {
-        Call::Delete => call_each(report, image, map, Call::Delete, edge)?,
-        Call::SetCharge => charge_each(report, image, map, edge)?,
-        _ => {}
+        None => {}
+        Some(Call::SetCharge) => charge_each(report, image, map, edge)?,
+        Some(call) => call_each(report, image, map, call, edge)?,
     }
-    for i in 0..lengths::OUTPUTS {
-        let room = lengths::output(i, edge.bytes);
+    for room in lengths::outputs(edge.bytes) {
         let round = rounds::saving::made(image, map, room);
-        saving::count(report, as_named(round, edge.bytes, room))?;
+        saving::count(report, as_due(round, edge.bytes, room))?;
     }
     Ok(())
 }
@@ -95,9 +89,9 @@ fn on_label(
     let number = if call == Call::SetCharge {
         charges::own(k)
     } else {
-        edge.value
+        usize::from(edge.value)
     };
-    let planned = planned::named(call, edge.shape, k, 0);
+    let planned = Planned::new(call, edge.shape, k, Due::Done);
     sequences::numbered(report, image, map, planned, number)
 }
 
@@ -119,9 +113,9 @@ fn charge_each(
 }
 
 // A save of a file of so many bytes: where it is not refused by 17, or does not write them, that is its fault.
-fn as_named(round: Round, bytes: usize, room: usize) -> Round {
+fn as_due(round: Round, bytes: usize, room: usize) -> Round {
     if bytes > room {
-        return sequences::as_named(round, 17);
+        return sequences::as_due(round, Due::Refused(Refusal::ShortOutput));
     }
     if round.written() == bytes {
         return round;

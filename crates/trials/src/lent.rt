@@ -4,7 +4,8 @@ use crate::damage::ALL_CALLS;
 use comparisons::Request;
 use images::memory::{Head, Image};
 use plans::lengths;
-use plans::planned::ANY_REFUSAL;
+use plans::lengths::Pair;
+use plans::planned::Due;
 use reports::Report;
 use reports::tallies::{Group, Tally};
 use samples::calls::Call;
@@ -18,11 +19,15 @@ const SLOT: usize = 2;
 
 pub fn run(out: Stdout, image: &Image) -> io::Result<()> {
     let mut report = Report::new(out);
-    for k in 0..ALL_CALLS * lengths::PAIRS * lengths::LABELS {
-        lend(&mut report, image, k)?;
+    let mut first = 0usize;
+    for n in lengths::labels(image.sizes.width) {
+        for pair in Pair::ALL {
+            lend(&mut report, image, pair, n, first)?;
+            first = first.wrapping_add(ALL_CALLS);
+        }
     }
-    for i in 0..lengths::ROOMS {
-        list(&mut report, image, i)?;
+    for room in lengths::rooms(image.head(Head::Held)) {
+        list(&mut report, image, room)?;
     }
     report.print_lent(Group {
         page: image.is_page(),
@@ -31,24 +36,29 @@ pub fn run(out: Stdout, image: &Image) -> io::Result<()> {
     })
 }
 
-// One of all calls on memory of each pair of lengths, with labels of each length.
-fn lend(report: &mut Report<Tally>, image: &Image, k: usize) -> io::Result<()> {
+// All calls on memory of a pair of lengths, with a label of so many bytes; so many calls came before.
+fn lend(
+    report: &mut Report<Tally>,
+    image: &Image,
+    pair: Pair,
+    n: usize,
+    before: usize,
+) -> io::Result<()> {
     let mut copy = *image;
-    lengths::lend(&mut copy, k / ALL_CALLS % lengths::PAIRS);
-    if k % ALL_CALLS >= damage::calls_of(&copy) {
-        return Ok(());
-    }
+    pair.lend(&mut copy);
     let label = [b'h'; 66];
-    let n = lengths::label(k / ALL_CALLS / lengths::PAIRS, image.sizes.width).min(66);
-    let seed = numbers::mixed_seed(numbers::SEED, k);
-    report.tally.changes.add_if(copy != *image);
-    damage::call(report, &copy, k % ALL_CALLS, &label[..n], SLOT, seed)
+    for k in 0..damage::calls_of(&copy) {
+        let seed = numbers::mixed_seed(numbers::SEED, before.wrapping_add(k));
+        report.tally.changes.add_if(copy != *image);
+        damage::call(report, &copy, k, &label[..n.min(66)], SLOT, seed)?;
+    }
+    Ok(())
 }
 
-// A listing into a list of one of the lengths.
-fn list(report: &mut Report<Tally>, image: &Image, i: usize) -> io::Result<()> {
+// A listing into a list of a length.
+fn list(report: &mut Report<Tally>, image: &Image, room: usize) -> io::Result<()> {
     let mut copy = *image;
-    copy.lent.room = lengths::room(i, image.head(Head::Held));
+    copy.lent.room = room;
     report.tally.changes.add_if(copy != *image);
-    damage::tried(report, &copy, Request::bare(Call::Listing), ANY_REFUSAL)
+    damage::tried(report, &copy, Request::bare(Call::Listing), Due::Judged)
 }

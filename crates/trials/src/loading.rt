@@ -4,8 +4,10 @@ use crate::{saving, sequences};
 use images::memory::Image;
 use images::outputs;
 use images::outputs::Output;
+use images::refusals::Refusal;
 use plainmap::PlainMap;
 use plans::lengths;
+use plans::planned::Due;
 use reports::Report;
 use reports::tallies::Tally;
 use samples::calls::Call;
@@ -37,39 +39,46 @@ fn saved(report: &mut Report<Tally>, image: &Image, map: &PlainMap) -> io::Resul
     saving::count(report, round)?;
     let mut copy = *image;
     let mut loaded = PlainMap::new(0, 0);
-    into(report, &mut copy, &file, round.written(), 0, &mut loaded)?;
+    into(
+        report,
+        &mut copy,
+        &file,
+        round.written(),
+        Due::Done,
+        &mut loaded,
+    )?;
     saving::count(report, rounds::saving::again(&copy, &loaded, &file))
 }
 
-// Loads the first bytes of a file, so many, which is to have a refusal's number, into memory of an image's lengths full
+// Loads the first bytes of a file, so many, of which something is to come, into memory of an image's lengths full
 // of other things; counts it, and leaves what is loaded, and the map of that.
 fn into(
     report: &mut Report<Tally>,
     image: &mut Image,
     file: &Output,
     n: usize,
-    refusal: usize,
+    due: Due,
     map: &mut PlainMap,
 ) -> io::Result<()> {
-    image.spoil(numbers::mixed(n, refusal));
-    let round = sequences::as_named(
+    image.spoil(numbers::mixed(n, due.number()));
+    let round = sequences::as_due(
         rounds::loading::made(image, file.get(..n).unwrap_or(file), map),
-        refusal,
+        due,
     );
     report.count(Call::Load, b"", round, map.held())
 }
 
-// Loads a file of so many bytes, which is to have a refusal's number; the image stays.
+// Loads a file of so many bytes, of which something is to come; the image stays.
 pub fn tried(
     report: &mut Report<Tally>,
     image: &Image,
     file: &Output,
     n: usize,
-    refusal: usize,
+    due: Due,
 ) -> io::Result<()> {
     let mut copy = *image;
     let mut map = PlainMap::new(0, 0);
-    into(report, &mut copy, file, n, refusal, &mut map)
+    into(report, &mut copy, file, n, due, &mut map)
 }
 
 // Loads the file of a table, then of its bytes one less, one more, far more, and none.
@@ -77,11 +86,14 @@ pub fn at_edge(report: &mut Report<Tally>, image: &Image, map: &PlainMap) -> io:
     saved(report, image, map)?;
     let mut file = outputs::fresh();
     let n = plainmap::files::write(&mut file, map);
-    for i in 1..lengths::OUTPUTS {
-        let end = lengths::output(i, n);
-        // The number that refuses a file cut short or followed by other bytes.
-        let refusal = if end < n { 18 } else { 20 };
-        tried(report, image, &file, end, refusal)?;
+    for &end in &lengths::outputs(n)[1..] {
+        // What refuses a file cut short or followed by other bytes.
+        let refusal = if end < n {
+            Refusal::BrokenFile
+        } else {
+            Refusal::BytesAfter
+        };
+        tried(report, image, &file, end, Due::Refused(refusal))?;
     }
     Ok(())
 }

@@ -17,7 +17,7 @@ use images::memory::Image;
 use images::sizes::Sizes;
 use plainmap::PlainMap;
 use plans::groups;
-use plans::groups::Plan;
+use plans::groups::{Plan, Way};
 use std::io;
 use std::io::Stdout;
 
@@ -31,8 +31,7 @@ fn main(rt: HostRuntime) -> io::Result<()> {
 fn run_index(out: Stdout, sizes: Sizes) -> io::Result<()> {
     let mut image = Image::fresh(sizes);
     let mut map = PlainMap::new(sizes.slots, sizes.width);
-    for group in 0..groups::GROUPS {
-        let plan = groups::plan_of(group, sizes.slots);
+    for plan in groups::plans(sizes.slots) {
         run_plan(out, &mut image, &mut map, plan)?;
     }
     lent::run(out, &image)?;
@@ -51,11 +50,11 @@ fn run_index(out: Stdout, sizes: Sizes) -> io::Result<()> {
 
 // A group, and the damaged memories of a table that it prepared; nothing where the index does not have its calls.
 fn run_plan(out: Stdout, image: &mut Image, map: &mut PlainMap, plan: Plan) -> io::Result<()> {
-    if groups::is_hubs(plan) && image.is_page() {
+    if plan.is_hubs() && image.is_page() {
         return Ok(());
     }
     sequences::run(out, image, map, plan)?;
-    if plan.way == groups::PREPARED {
+    if plan.way == Way::Prepared {
         damage::run(out, image, plan.shape)?;
     }
     Ok(())

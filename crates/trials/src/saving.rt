@@ -4,6 +4,7 @@ use comparisons::saves;
 use images::memory::Image;
 use plainmap::{PlainMap, files};
 use plans::lengths;
+use plans::lengths::Pair;
 use reports::tallies::{Group, Tally};
 use reports::{Report, Round};
 use samples::calls::Call;
@@ -46,7 +47,7 @@ fn in_turn(
     map: &PlainMap,
     turn: usize,
 ) -> io::Result<()> {
-    let room = lengths::output(turn % lengths::TURNS, files::length(map));
+    let room = lengths::output_in_turn(turn, files::length(map));
     count(report, rounds::saving::made(image, map, room))
 }
 
@@ -59,12 +60,11 @@ pub fn count(report: &mut Report<Tally>, round: Round) -> io::Result<()> {
 pub fn run_lent(out: Stdout, image: &Image) -> io::Result<()> {
     let map = saves::map_of(image);
     let mut report = Report::<Tally>::new(out);
-    for pair in 0..lengths::PAIRS {
+    for pair in Pair::ALL {
         let mut copy = *image;
-        lengths::lend(&mut copy, pair);
+        pair.lend(&mut copy);
         if !copy.is_page() {
-            for i in 0..lengths::OUTPUTS {
-                let room = lengths::output(i, files::length(&map));
+            for room in lengths::outputs(files::length(&map)) {
                 report.tally.changes.add_if(copy != *image);
                 count(&mut report, rounds::saving::made(&copy, &map, room))?;
             }

@@ -2,11 +2,9 @@
 use crate::{loading, saving};
 use comparisons::Request;
 use images::memory::Image;
-use images::refusals::Refusal;
 use plainmap::PlainMap;
-use plans::groups;
 use plans::groups::Plan;
-use plans::planned::{ANY_REFUSAL, Planned};
+use plans::planned::{Due, Planned};
 use reports::faults::Fault;
 use reports::tallies::{Group, Tally};
 use reports::{Report, Round};
@@ -22,9 +20,9 @@ pub fn run(out: Stdout, image: &mut Image, map: &mut PlainMap, plan: Plan) -> io
     let mut saves = Report::new(out);
     let mut loads = Report::new(out);
     let mut seed = numbers::SEED;
-    for i in 0..groups::calls(plan) {
+    for i in 0..plan.calls() {
         seed = numbers::next(seed);
-        call(&mut report, image, map, groups::call(plan, i, seed))?;
+        call(&mut report, image, map, plan.call(i, seed))?;
         seed = numbers::next(seed);
         saving::after(&mut saves, image, map, i)?;
         loading::after(&mut loads, image, map, i)?;
@@ -32,7 +30,7 @@ pub fn run(out: Stdout, image: &mut Image, map: &mut PlainMap, plan: Plan) -> io
     let group = Group {
         page: image.is_page(),
         shape: plan.shape,
-        name: name(plan.way),
+        name: plan.way.name(),
     };
     report.print_sequence(group)?;
     if !image.is_page() {
@@ -40,21 +38,6 @@ pub fn run(out: Stdout, image: &mut Image, map: &mut PlainMap, plan: Plan) -> io
         loads.print_loads(group)?;
     }
     Ok(())
-}
-
-fn name(way: usize) -> &'static str {
-    match way {
-        groups::CASE => "case 11",
-        groups::IN_ORDER => "in order",
-        groups::REVERSED => "reversed",
-        groups::STEPPED => "stepped",
-        groups::DRAWN => "drawn",
-        groups::PREPARED => "prepared",
-        groups::RESPELLED => "respelled",
-        groups::CHARGES_DRAWN => "charges drawn",
-        groups::CHARGED => "charged",
-        _ => "charge edges",
-    }
 }
 
 // Empties an index and a map.
@@ -71,10 +54,9 @@ fn call(
     map: &mut PlainMap,
     planned: Planned,
 ) -> io::Result<()> {
-    let number = if planned.call == Call::SetCharge {
-        planned.charge
-    } else {
-        usize::from(numbers::value(planned.label, report.tally.inserted.number()))
+    let number = match planned.charge {
+        Some(charge) => charge,
+        None => usize::from(numbers::value(planned.label, report.tally.inserted.number())),
     };
     numbered(report, image, map, planned, number)
 }
@@ -93,13 +75,13 @@ pub fn numbered(
         label: label.as_slice(),
         number,
     };
-    let round = as_named(rounds::made(image, map, request), planned.refusal);
+    let round = as_due(rounds::made(image, map, request), planned.due);
     report.count(planned.call, label.as_slice(), round, map.held())
 }
 
-// A round of a call that was to have a refusal's number: where it has another, that is its fault.
-pub fn as_named(round: Round, refusal: usize) -> Round {
-    if refusal == ANY_REFUSAL || refusal == round.refusal().map_or(0, Refusal::number) {
+// A round of a call of which something was to come: where another thing did, that is its fault.
+pub fn as_due(round: Round, due: Due) -> Round {
+    if due.allows(round.refusal()) {
         return round;
     }
     Round {
