@@ -1,4 +1,4 @@
-// What the tests draw from: the calls by number, labels by number, charges, and numbers that look random.
+// What the tests draw from: the calls, labels by number, charges, and numbers that look random.
 #![tactic(auto)]
 
 pub mod calls;
