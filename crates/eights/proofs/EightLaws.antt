@@ -13,11 +13,12 @@ use lib.Dec.{eqb}
 use lib.ListN.{length, get_or, take, drop, take-append-drop, length-take, length-drop}
 use lib.Seq.{drop-cons, drop-drop}
 use borrow.Author.Tests.{eqb-true}
+use Rattle.std.specs.Int.{w64, from_le_bytes}
 use Rattle.labels.specs.Labels.{Label, Comparison, compare_at, compare_from}
 use Rattle.compares.specs.Compares.{rest, HavePlaces}
 use Rattle.compares.proofs.Laws.{rest_start}
 use Rattle.orders.proofs.OrderLaws.{compare_decided, same_bytes}
-use Rattle.eights.specs.Eights.{AreBytes, Packed, packs_none, packs, SameEight}
+use Rattle.eights.specs.Eights.{Packed, packs_none, packs, SameEight}
 
 -- ---- numbers made of bytes
 
@@ -43,37 +44,28 @@ pack_byte : (l : List ℕ) (n i j r : ℕ) → i + 1 ≡ j → i < length l → 
     → Packed r (take n (drop j l)) → Packed (get_or l i 0 + 256 * r) (take (suc n) (drop i l))
 pack_byte l n i j r e h small p = rw (next_byte l n i j e h) (packs (get_or l i 0) r small p)
 
--- four more bytes are packed, of the indices i, j, k and m
-pack_four : (l : List ℕ) (n i j k m end r s : ℕ) → i + 1 ≡ j → i + 2 ≡ k → i + 3 ≡ m → i + 4 ≡ end → end ≤ length l
-    → s ≡ get_or l i 0 + 256 * get_or l j 0 + 65536 * get_or l k 0 + 16777216 * get_or l m 0
-    → AreBytes (get_or l i 0) (get_or l j 0) (get_or l k 0) (get_or l m 0)
-    → Packed r (take n (drop end l)) → Packed (s + 4294967296 * r) (take (suc (suc (suc (suc n)))) (drop i l))
-pack_four l n i j k m end r s p q t u within sum small rest =
-    rw nested
-    (pack_byte l (suc (suc (suc n))) i j _ p (omega arith) small.first
-    (pack_byte l (suc (suc n)) j k _ (omega arith) (omega arith) small.second
-    (pack_byte l (suc n) k m _ (omega arith) (omega arith) small.third
-    (pack_byte l n m end r (omega arith) (omega arith) small.fourth rest))))
+-- the eight bytes from index i on are packed into one number
+pub packed_eight : (l : List ℕ) (i n : ℕ) → i + 8 ≤ length l → ((k : ℕ) → get_or l k 0 < 256)
+    → n ≡ from_le_bytes w64 (get_or l i 0 ∷ (get_or l (i + 1) 0 ∷ (get_or l (i + 2) 0 ∷ (get_or l (i + 3) 0
+    ∷ (get_or l (i + 4) 0 ∷ (get_or l (i + 5) 0 ∷ (get_or l (i + 6) 0 ∷ (get_or l (i + 7) 0 ∷ []))))))))
+    → Packed n (take 8 (drop i l))
+packed_eight l i n h small e =
+    rw (e ∙ nested)
+    (pack_byte l 7 i (i + 1) _ refl (omega arith) (small i)
+    (pack_byte l 6 (i + 1) (i + 2) _ (omega arith) (omega arith) (small (i + 1))
+    (pack_byte l 5 (i + 2) (i + 3) _ (omega arith) (omega arith) (small (i + 2))
+    (pack_byte l 4 (i + 3) (i + 4) _ (omega arith) (omega arith) (small (i + 3))
+    (pack_byte l 3 (i + 4) (i + 5) _ (omega arith) (omega arith) (small (i + 4))
+    (pack_byte l 2 (i + 5) (i + 6) _ (omega arith) (omega arith) (small (i + 5))
+    (pack_byte l 1 (i + 6) (i + 7) _ (omega arith) (omega arith) (small (i + 6))
+    (pack_byte l 0 (i + 7) (i + 8) 0 (omega arith) (omega arith) (small (i + 7)) packs_none))))))))
   where
-    nested : s + 4294967296 * r
-        ≡ get_or l i 0 + 256 * (get_or l j 0 + 256 * (get_or l k 0 + 256 * (get_or l m 0 + 256 * r)))
+    nested : from_le_bytes w64 (get_or l i 0 ∷ (get_or l (i + 1) 0 ∷ (get_or l (i + 2) 0 ∷ (get_or l (i + 3) 0
+        ∷ (get_or l (i + 4) 0 ∷ (get_or l (i + 5) 0 ∷ (get_or l (i + 6) 0 ∷ (get_or l (i + 7) 0 ∷ []))))))))
+        ≡ get_or l i 0 + 256 * (get_or l (i + 1) 0 + 256 * (get_or l (i + 2) 0 + 256 * (get_or l (i + 3) 0
+        + 256 * (get_or l (i + 4) 0 + 256 * (get_or l (i + 5) 0 + 256 * (get_or l (i + 6) 0
+        + 256 * (get_or l (i + 7) 0 + 256 * 0)))))))
     nested = omega arith
-
--- four bytes, four more, and all eight packed into one number
-pub packed_eight : (l : List ℕ) (i r s : ℕ) → i + 8 ≤ length l
-    → r ≡ get_or l i 0 + 256 * get_or l (i + 1) 0 + 65536 * get_or l (i + 2) 0 + 16777216 * get_or l (i + 3) 0
-    → AreBytes (get_or l i 0) (get_or l (i + 1) 0) (get_or l (i + 2) 0) (get_or l (i + 3) 0)
-    → s ≡ get_or l (i + 4) 0 + 256 * get_or l (i + 5) 0 + 65536 * get_or l (i + 6) 0 + 16777216 * get_or l (i + 7) 0
-    → AreBytes (get_or l (i + 4) 0) (get_or l (i + 5) 0) (get_or l (i + 6) 0) (get_or l (i + 7) 0)
-    → Packed (r + 4294967296 * s) (take 8 (drop i l))
-packed_eight l i r s h e low f high =
-    pack_four l 4 i (i + 1) (i + 2) (i + 3) (i + 4) s r refl refl refl refl (omega arith) e low
-    (rw alone at
-    (pack_four l 0 (i + 4) (i + 5) (i + 6) (i + 7) (i + 8) 0 s (omega arith) (omega arith) (omega arith) (omega arith) h
-    f high packs_none))
-  where
-    alone : s + 4294967296 * 0 ≡ s
-    alone = omega arith
 
 -- the eight bytes of two lists are the same where the numbers packed of them are
 pub eight_found : (x y : List ℕ) (i r s : ℕ) → i + 8 ≤ length x → i + 8 ≤ length y

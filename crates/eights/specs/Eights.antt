@@ -2,13 +2,6 @@
 use Rattle.std.specs.Prelude.{ℕ, ◌+◌, ◌*◌, ◌<◌, List, [], ◌∷◌, ◌≡◌, Bool, true, take, drop}
 use Rattle.labels.specs.Labels.{Label}
 
--- four bytes, each of which fits
-pub record AreBytes (a b c d : ℕ) : Type 0 where
-  pub first : a < 256
-  pub second : b < 256
-  pub third : c < 256
-  pub fourth : d < 256
-
 -- a number made of bytes, the first of them lowest
 pub data Packed : ℕ → List ℕ → Type 0 where
   packs_none : Packed 0 []

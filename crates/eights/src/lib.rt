@@ -2,31 +2,29 @@
 // same are passed over at once, and the first eight that are not are settled place by place.
 #![tactic(auto)]
 
-ghost use Rattle.std.specs.Prelude.{◌≡◌, ◌+◌, ◌*◌, ◌≤◌, ◌<◌, max, leb, length, take, drop};
+ghost use Rattle.std.specs.Prelude.{◌≡◌, ◌+◌, ◌≤◌, max, leb, length, take, drop};
 ghost use Rattle.labels.specs.Labels.{compare_labels, compare_from, difference_place};
 ghost use Rattle.compares.specs.Compares.{comparison_of, rest, order_at, HavePlaces, StartsWithin, EndsWithin};
-ghost use Rattle.eights.specs.Eights.{AreBytes, Packed, SameEight};
+ghost use Rattle.eights.specs.Eights.{Packed, SameEight};
 
 use compares::Compared;
 use std::cmp::Ordering;
-
-// Four bytes as one number.
-fn four_bytes(a: u8, b: u8, c: u8, d: u8) -> u64
-    ensures value { result ≡ a + 256 * b + 65536 * c + 16777216 * d }
-    ensures upper_bound { result < 4294967296 }
-    ensures are_bytes { AreBytes a b c d }
-{
-    a as u64 + 256 * b as u64 + 65536 * c as u64 + 16777216 * d as u64
-}
 
 // The eight bytes from index i on as one number.
 pub fn eight_at(bytes: &[u8], i: usize) -> u64
     requires { i + 8 ≤ length bytes.now }
     ensures { Packed result (take 8 (drop i bytes.now)) }
 {
-    let low = four_bytes(bytes[i], bytes[i + 1], bytes[i + 2], bytes[i + 3]);
-    let high = four_bytes(bytes[i + 4], bytes[i + 5], bytes[i + 6], bytes[i + 7]);
-    low + 4294967296 * high
+    u64::from_le_bytes([
+        bytes[i],
+        bytes[i + 1],
+        bytes[i + 2],
+        bytes[i + 3],
+        bytes[i + 4],
+        bytes[i + 5],
+        bytes[i + 6],
+        bytes[i + 7],
+    ])
 }
 
 // Whether the eight bytes from index i on are the same.
@@ -50,6 +48,7 @@ fn past_same(x: &[u8], y: &[u8], from: usize, end: usize) -> usize
     }
     let last = end - 8;
     let mut i = from;
+    // A `for` with `step_by` does not give the index at which it ends.
     while i <= last {
         if !same_eight(x, y, i) {
             return i;
@@ -76,18 +75,14 @@ fn agree_before(x: &[u8], y: &[u8], place: usize) -> bool
     ensures { result ≡ leb place (difference_place x.now y.now) }
 {
     let end = place - 1;
-    if x.len() < end {
+    if x.len() < end || y.len() < end {
         return false;
     }
-    if y.len() < end {
-        return false;
-    }
-    let mut i = past_same(x, y, 0, end);
-    while i < end {
+    let from = past_same(x, y, 0, end);
+    for i in from..end {
         if !orders::same_letter(x[i], y[i]) {
             return false;
         }
-        i += 1;
     }
     true
 }
@@ -97,8 +92,9 @@ pub fn order_at(x: &[u8], y: &[u8], place: usize) -> Ordering
     requires { 1 ≤ place }
     ensures { result ≡ order_at place (compare_labels x.now y.now) }
 {
-    if !agree_before(x, y, place) {
-        return Ordering::Equal;
+    if agree_before(x, y, place) {
+        compares::at_place(x, y, place)
+    } else {
+        Ordering::Equal
     }
-    compares::at_place(x, y, place)
 }

@@ -1,9 +1,8 @@
-use borrow.Author.Tests.{not-true, not-false}
 use Rattle.eights.proofs.AgreeLaws.{order_unlike, order_alike}
 use Rattle.eights.proofs.order_at.Goals as goal
 
-pub returns-then-not-agree_before : goal.returns-then-not-agree_before
-returns-then-not-agree_before c = search (order_unlike, not-true)
+pub returns-then-agree_before : goal.returns-then-agree_before
+returns-then-agree_before c = search order_alike
 
-pub returns : goal.returns
-returns c = search (order_alike, not-false)
+pub returns-else-agree_before : goal.returns-else-agree_before
+returns-else-agree_before c = search order_unlike
