@@ -1,12 +1,12 @@
 -- The entries of a file inserted one after the other.
 -- `Inserting`: what is left to insert leaves the whole. `inserting_begins`, `inserting_goes_on`: the entries in turn.
 -- `insert_fits`: an entry's label can be inserted. `inserting_stops`, `inserting_ends`: where the inserts end.
-use mathlib.Core.Bool.{Bool, true, false, cond}
 use mathlib.Core.List.{List}
 use mathlib.Core.Path.{◌≡◌, refl, sym, ap, ◌∙◌}
-use Prim.Native.Nat.{ℕ, suc, ◌-◌, ◌≤◌, ◌<◌}
+use Prim.Native.Nat.{ℕ, suc, ◌≤◌}
 use native.Mathlib.Omega.{arith}
 use lib.ListN.{drop}
+use Rattle.std.specs.Prelude.{Option, Some, None}
 use Rattle.types.specs.declared.Limits.{Limits}
 use Rattle.types.specs.Answers.{Answer}
 use Rattle.trees.specs.Plain.{insert}
@@ -14,11 +14,11 @@ use Rattle.tables.specs.Written.{Memory, lent}
 use Rattle.tables.specs.Outcomes.{update_outcome, insert_outcome}
 use Rattle.tables.specs.Given.{Gives}
 use Rattle.tables.specs.Claims.{Sound, after_list}
-use Rattle.files.specs.FileReads.{EntryRead, no_entry, entry, take_entry}
+use Rattle.files.specs.FileReads.{EntryRead, entry, take_entry}
 use Rattle.files.proofs.FileEntries.{entry_fits}
 use Rattle.demands.proofs.OrderedMap.{ordered_map}
 use Rattle.scans.specs.declared.Entry.{Entry}
-use Rattle.scans.specs.Scanned.{part_of, entry_says}
+use Rattle.scans.specs.Scanned.{label_of, entry_says}
 use Rattle.endings.specs.Ready.{EditsFit, Ready, InsertsReady}
 use Rattle.loads.specs.Inserted.{call_then, calls_in, Leaves}
 
@@ -50,40 +50,29 @@ module _ (limits : Limits) (file : List ℕ) (whole : Memory) (table store : Lis
       let none_left : remaining ≡ 0 = omega arith in
       left_whole whole table store (rw none_left at inserting.leaves)
 
-  module _ (more : 0 < remaining) (e : Entry) (read : entry_says file e ≡ take_entry limits (drop next file)) where
+  module _ (n : ℕ) (one_more : remaining ≡ suc n) (read : Option Entry)
+      (says : entry_says file read ≡ take_entry limits (drop next file)) where
     -- What is left, by the next entry.
-    by_next : (n : ℕ) → remaining ≡ suc n
-        → after_list limits (call_then (entry_says file e) (λ rest. calls_in limits n rest)) (lent table store) ≡ whole
+    by_next : (found : Option Entry) → read ≡ found
+        → after_list limits (call_then (entry_says file found) (λ rest. calls_in limits n rest)) (lent table store)
+        ≡ whole
     unfolding calls_in
-    by_next n is =
-        ap (λ (r : EntryRead). after_list limits (call_then r (λ rest. calls_in limits n rest)) (lent table store)) read
-        ∙ rw is at inserting.leaves
+    by_next found is =
+        ap (λ (r : EntryRead). after_list limits (call_then r (λ rest. calls_in limits n rest)) (lent table store))
+        (ap (entry_says file) (sym is) ∙ says)
+        ∙ rw one_more at inserting.leaves
 
-    -- At an entry that is not whole nothing more is inserted.
-    pub inserting_stops : e.whole ≡ false → Leaves whole table store
-    inserting_stops broken =
-        left_whole whole table store
-        (ap
-        (λ (b : Bool).
-        after_list limits
-        (call_then
-        (cond b (entry (part_of file e.start e.end) e.value (drop e.next file)) no_entry)
-        (λ rest. calls_in limits (remaining - 1) rest))
-        (lent table store)) (sym broken)
-        ∙ by_next (remaining - 1) (omega arith))
+    -- Where there is no entry nothing more is inserted.
+    pub inserting_stops : read ≡ None → Leaves whole table store
+    inserting_stops none = left_whole whole table store (by_next None none)
 
-    module _ (is_whole : e.whole ≡ true) where
-      -- What is read of an entry that is whole.
-      read_whole : take_entry limits (drop next file)
-          ≡ entry (part_of file e.start e.end) e.value (drop e.next file)
-      read_whole =
-          sym read
-          ∙ ap
-          (λ (b : Bool). cond b (entry (part_of file e.start e.end) e.value (drop e.next file)) no_entry)
-          is_whole
+    module _ (e : Entry) (is : read ≡ Some e) where
+      -- What is read of an entry.
+      read_whole : take_entry limits (drop next file) ≡ entry (label_of file e) e.value (drop e.next file)
+      read_whole = sym says ∙ ap (entry_says file) is
 
       -- Its label can be inserted.
-      pub insert_fits : Ready limits table store (part_of file e.start e.end)
+      pub insert_fits : Ready limits table store (label_of file e)
       insert_fits =
           record {
             limits_fit = inserting.limits_fit;
@@ -93,11 +82,11 @@ module _ (limits : Limits) (file : List ℕ) (whole : Memory) (table store : Lis
 
       -- Past it the entries after it are left.
       pub inserting_goes_on : (answer : Answer) (words bytes : List ℕ)
-          → Gives (insert_outcome limits table store (part_of file e.start e.end) e.value) answer words bytes
-          → Inserting limits file whole words bytes (remaining - 1) e.next
+          → Gives (insert_outcome limits table store (label_of file e) e.value) answer words bytes
+          → Inserting limits file whole words bytes n e.next
       unfolding insert_outcome
       inserting_goes_on answer words bytes gives =
-          let x = part_of file e.start e.end in
+          let x = label_of file e in
           let after = (update_outcome limits (insert x e.value) table store).memory in
           let same : lent words bytes ≡ after = λ i. record { table = gives.table i; store = gives.store i } in
           record {
@@ -106,11 +95,5 @@ module _ (limits : Limits) (file : List ℕ) (whole : Memory) (table store : Lis
                 rw same
                 ((ordered_map limits inserting.limits_fit.deepest).updates (lent table store) inserting.sound x
                 insert_fits.label e.value).insert_sound;
-            leaves =
-                rw same
-                (ap
-                (λ (r : EntryRead).
-                after_list limits (call_then r (λ rest. calls_in limits (remaining - 1) rest)) (lent table store))
-                (sym (read ∙ read_whole))
-                ∙ by_next (remaining - 1) (omega arith));
+            leaves = rw same (by_next (Some e) is);
           }

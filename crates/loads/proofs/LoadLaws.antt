@@ -6,8 +6,11 @@ use mathlib.Core.List.{List, [], ◌∷◌}
 use mathlib.Core.Path.{◌≡◌, refl, sym, ap, ◌∙◌}
 use Prim.Native.Nat.{ℕ, zero, suc}
 use lib.ListN.{length, drop, replicate}
+use Rattle.std.specs.Prelude.{Option, Some, None, Result, Ok, Err}
+use Rattle.std.specs.Option.{ok_or}
 use Rattle.types.specs.declared.Limits.{Limits}
 use Rattle.types.specs.declared.Refusal.{Refusal}
+use Rattle.types.specs.declared.Refusal.TheVariants.{BrokenFile}
 use Rattle.types.specs.Answers.{refusal_number}
 use Rattle.types.specs.LoadReplies.{LoadReply, loaded, refused}
 use Rattle.labels.specs.Labels.{Label, compare_labels}
@@ -18,9 +21,7 @@ use Rattle.trees.specs.Valid.{is_smaller}
 use Rattle.tables.specs.Written.{Memory, lent}
 use Rattle.tables.specs.Outcomes.{pass, of_memory, layout_outcome}
 use Rattle.tables.specs.Claims.{after_list}
-use Rattle.lengths.specs.declared.Early.{Early}
-use Rattle.lengths.specs.declared.Early.TheVariants.{Pass, Refused}
-use Rattle.lengths.specs.Early.{early_says}
+use Rattle.lengths.specs.Tests.{test_says}
 use Rattle.lengths.proofs.FirstLines.{memory_refused, memory_passed, sizes_fit}
 use Rattle.files.specs.FileReads.{EntryRead, no_entry, entry, FileRead, refused_by, holds, with_pair, filed, entry_then}
 use Rattle.files.specs.FileReads.{at_end, take_number, take_entry, take_entries, count_then, read_file}
@@ -28,7 +29,6 @@ use Rattle.files.specs.Loads.{inserts_of, loading_by, load_outcome, Loads}
 use Rattle.demands.proofs.Outcomes.{memory_passes}
 use Rattle.demands.proofs.SoundAfter.{sound_after}
 use Rattle.scans.specs.declared.Number.{Number}
-use Rattle.scans.specs.declared.Number.TheVariants.{Broken, Read}
 use Rattle.scans.specs.Scanned.{number_says, verdict_of}
 use Rattle.endings.specs.Ready.{EditsFit, InsertsReady}
 use Rattle.loads.specs.Inserted.{call_then, calls_in, Leaves, LoadReady}
@@ -107,27 +107,35 @@ module _ (limits : Limits) (table store : List ℕ) (ready : LoadReady limits ta
 abbrev Stays : Limits → (table store : List ℕ) → FileRead → ℕ → Type 0
 Stays limits table store read number = Loads (loading_by limits (lent table store) read) (refused number) table store
 
-module _ (limits : Limits) (table store file : List ℕ) (number : Number)
+module _ (limits : Limits) (table store file : List ℕ) (number : Option Number)
     (says : number_says file number ≡ take_number 0 limits.slots (drop 0 file)) where
   -- What is read, by the number of labels.
-  by_count : (n : Number) → number ≡ n → read_file limits file ≡ count_then limits (number_says file n)
+  by_count : (n : Option Number) → number ≡ n → read_file limits file ≡ count_then limits (number_says file n)
   unfolding read_file
   by_count n is = ap (count_then limits) (sym says ∙ ap (number_says file) is)
 
   -- Without that number a file is refused by 18.
-  pub count_broken : number ≡ Broken → Stays limits table store (read_file limits file) 18
-  count_broken is = rw (by_count Broken is) (record { answer = refl; table = refl; store = refl })
+  pub count_broken : (tested : Result Number Refusal) (r : Refusal) → tested ≡ ok_or number BrokenFile
+      → tested ≡ Err r → Stays limits table store (read_file limits file) (refusal_number r)
+  count_broken tested r is fails = go number refl (sym is ∙ fails)
+    where
+      go : (found : Option Number) → number ≡ found → ok_or found BrokenFile ≡ Err r
+          → Stays limits table store (read_file limits file) (refusal_number r)
+      go None none same =
+          let broken : r ≡ BrokenFile = cc in
+          rw (broken, by_count None none) (record { answer = refl; table = refl; store = refl })
+      go (Some n) one same = clash cc
 
-  module _ (count next : ℕ) (is : number ≡ Read count next) (early : Early)
-      (scanned : early_says early ≡ verdict_of (take_entries limits count [] (drop next file))) where
+  module _ (size : Number) (is : number ≡ Some size) (tested : Result Unit Refusal)
+      (scanned : test_says tested ≡ verdict_of (take_entries limits size.n [] (drop size.next file))) where
     -- A file whose labels are refused is refused by that number.
-    pub file_refused : (r : Refusal) → early ≡ Refused r
+    pub file_refused : (r : Refusal) → tested ≡ Err r
         → Stays limits table store (read_file limits file) (refusal_number r)
     file_refused r refuses =
-        rw (by_count (Read count next) is)
-        (go (take_entries limits count [] (drop next file)) (sym (ap early_says refuses) ∙ scanned))
+        rw (by_count (Some size) is)
+        (go (take_entries limits size.n [] (drop size.next file)) (sym (ap test_says refuses) ∙ scanned))
       where
-        go : (read : FileRead) → early_says (Refused r) ≡ verdict_of read
+        go : (read : FileRead) → test_says (Err r) ≡ verdict_of read
             → Stays limits table store read (refusal_number r)
         go (refused_by why) same =
             let number_is : refusal_number r ≡ why = cc in
@@ -135,22 +143,22 @@ module _ (limits : Limits) (table store file : List ℕ) (number : Number)
         go (holds pairs) same = clash cc
 
     -- Any other file is loaded: its labels are inserted.
-    pub file_loaded : early ≡ Pass → LoadReady limits table store → (cleared_words cleared_bytes : List ℕ)
+    pub file_loaded : tested ≡ Ok tt → LoadReady limits table store → (cleared_words cleared_bytes : List ℕ)
         → cleared_words ≡ replicate (length table) 0 → cleared_bytes ≡ replicate (length store) 0
         → (words bytes : List ℕ)
-        → Leaves (after_list limits (calls_in limits count (drop next file)) (lent cleared_words cleared_bytes)) words
+        → Leaves (after_list limits (calls_in limits size.n (drop size.next file)) (lent cleared_words cleared_bytes)) words
         bytes
-        → Loads (loading_by limits (lent table store) (read_file limits file)) (loaded count) words bytes
+        → Loads (loading_by limits (lent table store) (read_file limits file)) (loaded size.n) words bytes
     file_loaded passes ready cleared_words cleared_bytes no_word no_byte words bytes leaves =
-        rw (by_count (Read count next) is)
-        (go (take_entries limits count [] (drop next file)) refl (sym (ap early_says passes) ∙ scanned))
+        rw (by_count (Some size) is)
+        (go (take_entries limits size.n [] (drop size.next file)) refl (sym (ap test_says passes) ∙ scanned))
       where
-        go : (read : FileRead) → take_entries limits count [] (drop next file) ≡ read → pass ≡ verdict_of read
-            → Loads (loading_by limits (lent table store) read) (loaded count) words bytes
+        go : (read : FileRead) → take_entries limits size.n [] (drop size.next file) ≡ read → pass ≡ verdict_of read
+            → Loads (loading_by limits (lent table store) read) (loaded size.n) words bytes
         go (refused_by why) reads same = clash cc
         go (holds pairs) reads same =
-            let those = inserts_of_lem limits count [] (drop next file) pairs reads in
-            let left : after_list limits (calls_in limits count (drop next file)) (lent cleared_words cleared_bytes)
+            let those = inserts_of_lem limits size.n [] (drop size.next file) pairs reads in
+            let left : after_list limits (calls_in limits size.n (drop size.next file)) (lent cleared_words cleared_bytes)
             ≡ after_list limits (inserts_of pairs) (layout_outcome limits table store).memory =
             rw (
               those.calls,
@@ -164,23 +172,23 @@ module _ (limits : Limits) (table store file : List ℕ) (number : Number)
 
 -- ---- the tests of lent memory
 
-module _ (limits : Limits) (table store file : List ℕ) (early : Early)
-    (says : early_says early ≡ of_memory limits table store pass) where
-  pub load_refused : (r : Refusal) → early ≡ Refused r
+module _ (limits : Limits) (table store file : List ℕ) (tested : Result Unit Refusal)
+    (says : test_says tested ≡ of_memory limits table store pass) where
+  pub load_refused : (r : Refusal) → tested ≡ Err r
       → Loads (load_outcome limits table store file) (refused (refusal_number r)) table store
   unfolding load_outcome
   load_refused r refuses =
-      rw (memory_refused limits table store early says r refuses pass)
+      rw (memory_refused limits table store tested says r refuses pass)
       (record { answer = refl; table = refl; store = refl })
 
-  module _ (passes : early ≡ Pass) where
+  module _ (passes : tested ≡ Ok tt) where
     pub load_passed : (a : LoadReply) (words bytes : List ℕ)
         → Loads (loading_by limits (lent table store) (read_file limits file)) a words bytes
         → Loads (load_outcome limits table store file) a words bytes
     unfolding load_outcome
-    load_passed a words bytes loads = rw (memory_passed limits table store early says passes pass) loads
+    load_passed a words bytes loads = rw (memory_passed limits table store tested says passes pass) loads
 
     pub load_ready : EditsFit limits → LoadReady limits table store
     load_ready fits =
-        let sizes = sizes_fit limits table store early says fits.fit passes in
+        let sizes = sizes_fit limits table store tested says fits.fit passes in
         record { limits_fit = fits; words = sizes.words; bytes = sizes.bytes }

@@ -11,9 +11,7 @@ ghost use Rattle.files.specs.Loads.{loading_by, load_outcome, Loads};
 ghost use Rattle.endings.specs.Ready.{EditsFit, InsertsReady};
 ghost use Rattle.loads.specs.Inserted.{calls_in, Leaves, LoadReady};
 
-use lengths::Early;
-use scans::Number;
-use types::{Limits, LoadAnswer, Refusal};
+use types::{Limits, Refusal};
 
 // Inserts so many entries of a file from a position on into a sound table, up to the first that is not whole.
 fn insert_entries(
@@ -30,52 +28,47 @@ fn insert_entries(
         (lent table.old store.old))
         table.new store.new }
 {
-    let mut remaining = count;
     let mut next = at;
-    while 0 < remaining {
-        let entry = scans::take_entry(limits, file, next);
-        if !entry.whole {
+    for _ in 0..count {
+        let Some(entry) = scans::take_entry(limits, file, next) else {
             return;
-        }
-        let start = entry.start;
-        let end = entry.end;
-        inserts::insert_ready(limits, table, store, &file[start..end], entry.value);
+        };
+        let label = &file[entry.start..entry.end];
+        let _ = inserts::insert_ready(limits, table, store, label, entry.value);
         next = entry.next;
-        remaining -= 1;
     }
 }
 
 // Loads a file into a table and a store of the right lengths; refused by 18, 19 and 20.
-fn load_ready(limits: Limits, table: &mut [u16], store: &mut [u8], file: &[u8]) -> LoadAnswer
+fn load_ready(
+    limits: Limits,
+    table: &mut [u16],
+    store: &mut [u8],
+    file: &[u8],
+) -> Result<usize, Refusal>
     requires { LoadReady limits table.old store.old }
     ensures { Loads (loading_by limits (lent table.old store.old) (read_file limits file.now))
         (load_says result) table.new store.new }
 {
-    let number = scans::groups::take(file, 0, 0, limits.slots);
-    let Number::Read { n: count, next } = number else {
-        return LoadAnswer::Refused(Refusal::BrokenFile);
-    };
-    let early = scans::scan(limits, file, next, count);
-    match early {
-        Early::Refused(refusal) => LoadAnswer::Refused(refusal),
-        Early::Pass => {
-            layouts::clear_words(table);
-            layouts::clear_bytes(store);
-            insert_entries(limits, table, store, file, next, count);
-            LoadAnswer::Loaded(count)
-        }
-    }
+    let size = scans::groups::take(file, 0, 0, limits.slots).ok_or(Refusal::BrokenFile)?;
+    scans::scan(limits, file, size.next, size.n)?;
+    table.fill(0);
+    store.fill(0);
+    insert_entries(limits, table, store, file, size.next, size.n);
+    Ok(size.n)
 }
 
 // Loads a saved file, whatever table and store hold; refused by 1 and 2, then by 18, 19 and 20.
-pub fn load_within(limits: Limits, table: &mut [u16], store: &mut [u8], file: &[u8]) -> LoadAnswer
+pub fn load_within(
+    limits: Limits,
+    table: &mut [u16],
+    store: &mut [u8],
+    file: &[u8],
+) -> Result<usize, Refusal>
     requires { EditsFit limits }
     ensures { Loads (load_outcome limits table.old store.old file.now)
         (load_says result) table.new store.new }
 {
-    let early = lengths::of_memory(limits, table, store);
-    match early {
-        Early::Refused(refusal) => LoadAnswer::Refused(refusal),
-        Early::Pass => load_ready(limits, table, store, file),
-    }
+    lengths::of_memory(limits, table, store)?;
+    load_ready(limits, table, store, file)
 }

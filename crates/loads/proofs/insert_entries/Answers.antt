@@ -1,19 +1,23 @@
-use borrow.Author.Rules.{rules}
-use borrow.Author.Tests.{not-true, not-false}
+use Rattle.std.proofs.Common.{rules, ◌≡◌, suc, ◌+◌, ◌-◌, arith}
 use Rattle.loads.proofs.InsertLaws.{inserting_goes_on, insert_fits}
 use Rattle.loads.proofs.InsertLaws.{inserting_stops, inserting_ends}
 use Rattle.loads.proofs.insert_entries.Goals as goal
 
-pub returns-then-not-entry : goal.returns-then-not-entry
-returns-then-not-entry c = search (inserting_stops, not-true)
+pub returns-in_default : goal.returns-in_default
+returns-in_default c =
+    let one_more : c.args.count - c.loop.counter ≡ suc (c.args.count - (c.loop.counter + 1)) = omega arith in
+    inserting_stops _ _ _ _ _ _ _ c.loop.invariant _ one_more _ c.take_entry.ensures.result_value (search rules)
 
 pub insert_ready-requires : goal.insert_ready-requires
-insert_ready-requires c = insert_fits _ _ _ _ _ _ _ c.loop-remaining.invariant (search rules) c.take_entry-entry.result c.take_entry-entry.ensures.result_value
-    (search not-false)
+insert_ready-requires c =
+    let one_more : c.args.count - c.loop.counter ≡ suc (c.args.count - (c.loop.counter + 1)) = omega arith in
+    insert_fits _ _ _ _ _ _ _ c.loop.invariant _ one_more _ c.take_entry.ensures.result_value c.in-Some.entry (search rules)
 
-pub loop-remaining-preserved : goal.loop-remaining-preserved
-loop-remaining-preserved c = inserting_goes_on _ _ _ _ _ _ _ c.loop-remaining.invariant (search rules) c.take_entry-entry.result
-    c.take_entry-entry.ensures.result_value (search not-false) _ _ _ c.insert_ready.ensures
+pub loop-preserved : goal.loop-preserved
+loop-preserved c =
+    let one_more : c.args.count - c.loop.counter ≡ suc (c.args.count - (c.loop.counter + 1)) = omega arith in
+    inserting_goes_on _ _ _ _ _ _ _ c.loop.invariant _ one_more _ c.take_entry.ensures.result_value c.in-Some.entry (search rules)
+    _ _ _ c.insert_ready.ensures
 
 pub returns : goal.returns
-returns c = search inserting_ends
+returns c = inserting_ends _ _ _ _ _ _ _ c.loop.invariant (omega arith)
