@@ -3,7 +3,7 @@
 -- those after it. `stays_sound`: an insert into a sound table leaves it sound.
 use mathlib.Core.List.{List, [], ◌∷◌}
 use mathlib.Core.Path.{◌≡◌, refl, sym, ap, ◌∙◌}
-use Prim.Native.Nat.{ℕ, suc, ◌-◌}
+use Prim.Native.Nat.{ℕ, suc}
 use Rattle.types.specs.declared.Limits.{Limits}
 use Rattle.types.specs.Answers.{Answer, updated, refused}
 use Rattle.types.specs.RosterReplies as reply

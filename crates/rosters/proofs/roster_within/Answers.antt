@@ -1,8 +1,5 @@
-use Rattle.rosters.proofs.RosterLaws.{roster_refused, roster_passed}
+use Rattle.rosters.proofs.RosterLaws.{roster_passed}
 use Rattle.rosters.proofs.roster_within.Goals as goal
 
-pub returns-in-Refused : goal.returns-in-Refused
-returns-in-Refused c = search roster_refused
-
-pub returns-in-Pass : goal.returns-in-Pass
-returns-in-Pass c = search roster_passed
+pub returns : goal.returns
+returns c = roster_passed _ _ _ _ _ c.early_refusal.ensures c.in_default.is _ _ _ c.take_records.ensures

@@ -1,8 +1,6 @@
-use Rattle.rosters.proofs.RosterLaws.{no_records, first_refused}
+use Rattle.std.proofs.Common.{rules}
+use Rattle.rosters.proofs.RosterLaws.{first_refused}
 use Rattle.rosters.proofs.take_records.Goals as goal
 
-pub returns-then-text-eq0 : goal.returns-then-text-eq0
-returns-then-text-eq0 c = search no_records
-
-pub returns-in-Refused : goal.returns-in-Refused
-returns-in-Refused c = search first_refused
+pub returns-in-Err : goal.returns-in-Err
+returns-in-Err c = first_refused _ _ _ _ _ c.requires (search rules) _ c.first_refusal.ensures _ c.in-Err.is
