@@ -1,42 +1,36 @@
-// What is said to a line: the call that it asks is made, and its answer's line is put into a lent buffer.
+// What is said to a line: the call that it asks is made, and its answer's line is put behind a text.
 #![tactic(auto)]
 
 ghost use Rattle.std.specs.Prelude.{◌≡◌, ◌+◌, ◌≤◌, length};
+ghost use Rattle.tables.specs.Written.{lent};
 ghost use Rattle.lines.specs.Commands.{asks};
 ghost use Rattle.inputs.specs.Inputs.{reply_to};
-ghost use Rattle.keeps.specs.Held.{line_of};
-ghost use Rattle.replies.specs.Replies.{memory_of, reply_of, Replies};
+ghost use Rattle.replies.specs.Replies.{reply_of, Replies};
 
-use keeps::Line;
 use lines::Command;
-use texts::Said;
+use texts::{Said, Text};
 
-// Answers the line that has begun: its answer's line is put at a place; gives the place after it.
-pub fn reply(table: &mut [u16], store: &mut [u8], line: Line, out: &mut [u8], place: usize) -> usize
-    requires { place + 96 ≤ length out.old }
-    ensures replies { Replies
-        (reply_to (memory_of table.old store.old) (asks (line_of line)))
-        out.old place table.new store.new out.new result }
-    ensures upper_bound { result ≤ length out.new }
+// Answers a line: puts its answer's line.
+pub fn reply<const N: usize>(table: &mut [u16], store: &mut [u8], line: &[u8], out: &mut Text<N>)
+    requires { length out.old + 96 ≤ N }
+    ensures { Replies (reply_to (lent table.old store.old) (asks line.now))
+        out.old table.new store.new out.new }
 {
-    let bytes = line.bytes;
-    let len = keeps::held(&bytes, line.len);
-    let said = ask(table, store, &bytes[..len]);
-    texts::put_said(said, out, place)
+    let said = ask(table, store, line);
+    out.put_said(said);
 }
 
-// Does what a line asks.
-fn ask(table: &mut [u16], store: &mut [u8], line: &[u8]) -> Said
+// Does what a line asks, if it asks something.
+fn ask(table: &mut [u16], store: &mut [u8], line: &[u8]) -> Option<Said>
     ensures { reply_of result table.new store.new
-        ≡ reply_to (memory_of table.old store.old) (asks line.now) }
+        ≡ reply_to (lent table.old store.old) (asks line.now) }
 {
-    let asked = lines::command_of(line);
-    match asked {
-        Command::Insert { end, value } => {
-            Said::Update(index::insert(table, store, &line[2..end], value))
+    let command = lines::command_of(line)?;
+    match command {
+        Command::Insert { label, value } => {
+            Some(Said::Update(index::insert(table, store, label, value)))
         }
-        Command::Delete { end } => Said::Update(index::delete(table, store, &line[2..end])),
-        Command::Search { end } => Said::Search(index::search(table, store, &line[2..end])),
-        Command::Bad => Said::Bad,
+        Command::Delete { label } => Some(Said::Update(index::delete(table, store, label))),
+        Command::Search { label } => Some(Said::Search(index::search(table, store, label))),
     }
 }

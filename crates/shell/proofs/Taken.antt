@@ -1,47 +1,48 @@
 -- The bytes of an input as they come, and its end.
---     took_end, took_byte       what a byte makes of what was said and kept
---     takes_on, takes_last      the bytes of a read, one after the other
---     ends_begun, ends_unbegun  the input's end
-use mathlib.Core.Path.{◌≡◌, refl}
-use mathlib.Core.List.{List, [], ◌∷◌}
+--     fresh_laid                  what layout left is the fresh table
+--     took_end, took_byte         what a byte makes of what was said and kept
+--     takes_on, takes_last        the bytes of a read, one after the other
+--     ended_begun, ended_unbegun  the input's end
+use mathlib.Core.Path.{◌≡◌, refl, sym, ap, ◌∙◌}
+use mathlib.Core.List.{List, [], ◌∷◌, append-nil}
 use Prim.Native.Nat.{ℕ, ◌+◌, ◌≤◌, ◌<◌}
 use native.Mathlib.Numerals.{add-one}
 use native.Mathlib.Omega.{arith}
 use borrow.Author.Tests.{ne_eqb}
-use lib.ListN.{length, take, drop, get_or, length-take, drop_of_length-le}
+use lib.ListN.{length, drop, get_or, drop_of_length-le}
 use lib.Seq.{drop-cons}
-use Rattle.tables.specs.Written.{Memory}
+use Rattle.types.specs.Sizes.{hub, table_length, store_length}
+use Rattle.types.specs.Answers.{Answer}
+use Rattle.tables.specs.Written.{Memory, lent}
+use Rattle.tables.specs.Outcomes.{layout_outcome}
+use Rattle.tables.specs.Given.{Gives}
 use Rattle.lines.specs.Commands.{asks}
-use Rattle.inputs.specs.Inputs.{reply_to}
-use Rattle.inputs.specs.Reads.{Progress, kept, next, after, ended}
-use Rattle.keeps.specs.declared.Line.{Line}
-use Rattle.keeps.specs.Held.{line_of, Held}
-use Rattle.replies.specs.Replies.{memory_of, Replies}
-use Rattle.shell.specs.declared.Progress as code
-use Rattle.shell.specs.Shells.{progress_of, Ends}
+use Rattle.inputs.specs.Inputs.{reply_to, fresh}
+use Rattle.inputs.specs.Reads.{Shell, Progress, kept, replied, next, after, ended}
+use Rattle.inputs.proofs.Fresh.{layout_is_fresh}
+use Rattle.shell.specs.Shells.{progress_of, Says}
 
-module _ (table store out : List ℕ) (before : code.Progress) (line : Line) (byte : ℕ) where
+-- what layout left is the fresh table
+pub fresh_laid : (table store words bytes : List ℕ) (answer : Answer) → length table ≡ table_length hub
+    → length store ≡ store_length hub → Gives (layout_outcome hub table store) answer words bytes
+    → lent words bytes ≡ fresh
+fresh_laid table store words bytes answer table_is store_is gives =
+    (λ i. record { table = gives.table i; store = gives.store i }) ∙ layout_is_fresh table store table_is store_is
+
+module _ (s t : Shell) (before : List ℕ) (byte : ℕ) where
   -- a byte 10 has the line answered
-  pub took_end : byte ≡ 10 → (words cells text : List ℕ) (end : ℕ)
-      → Replies (reply_to (memory_of table store) (asks (line_of before.line))) out before.end words cells text end
-      → line_of line ≡ []
-      → progress_of words cells text (record { line = line; end = end }) ≡ next (progress_of table store out before) byte
+  pub took_end : (out : List ℕ) → byte ≡ 10 → Says before (replied before (reply_to s.memory (asks s.line))) t out
+      → Says before (next (progress_of s before) byte) t out
   unfolding next
-  took_end is words cells text end replies none =
-      rw is
-      (λ i. record { text = replies.text i; shell = record { memory = replies.memory i; line = none i } })
+  took_end out is says = rw is says
 
   -- any other byte is kept
-  pub took_byte : (byte ≡ 10 → ⊥) → line_of line ≡ kept (line_of before.line) byte
-      → progress_of table store out (record { line = line; end = before.end })
-      ≡ next (progress_of table store out before) byte
+  pub took_byte : (byte ≡ 10 → ⊥) → t ≡ record { memory = s.memory; line = kept s.line byte }
+      → Says before (next (progress_of s before) byte) t before
   unfolding next
   took_byte other keeps =
       rw (ne_eqb byte 10 other)
-      (λ i. record {
-        text = take before.end out;
-        shell = record { memory = memory_of table store; line = keeps i };
-      })
+      (record { says = λ i. progress_of (keeps i) before; room = omega arith })
 
 -- of the bytes those from place i on are still to be taken
 module _ (bytes : List ℕ) (i : ℕ) (p all : Progress) (so_far : after p (drop i bytes) ≡ all) where
@@ -54,38 +55,24 @@ module _ (bytes : List ℕ) (i : ℕ) (p all : Progress) (so_far : after p (drop
   pub takes_last : length bytes ≤ i → p ≡ all
   takes_last past = rw (drop_of_length-le bytes past) at so_far
 
-ended_begun : (m : Memory) (line : List ℕ) → 0 < length line
+begun : (m : Memory) (line : List ℕ) → 0 < length line
     → ended (record { memory = m; line = line }) ≡ reply_to m (asks line)
 unfolding ended
-ended_begun m [] some = absurd (omega arith)
-ended_begun m (byte ∷ line) some = refl
+begun m [] some = absurd (omega arith)
+begun m (byte ∷ line) some = refl
 
-ended_unbegun : (m : Memory) (line : List ℕ) → length line ≤ 0
-    → ended (record { memory = m; line = line }) ≡ record { text = []; memory = m }
+unbegun : (m : Memory) (line out : List ℕ) → length line ≤ 0
+    → progress_of (record { memory = m; line = line }) out ≡ replied out (ended (record { memory = m; line = line }))
 unfolding ended
-ended_unbegun m [] none = refl
-ended_unbegun m (byte ∷ line) none = absurd (omega arith)
+unbegun m [] out none = λ i. progress_of (record { memory = m; line = [] }) (sym (append-nil out) i)
+unbegun m (byte ∷ line) out none = absurd (omega arith)
 
-module _ (table store bytes : List ℕ) (len held : ℕ) (holds : Held bytes len held) where
-  length_held : length (take len bytes) ≡ held
-  length_held = rw (← holds.same, length-take) (omega (arith, holds.whole, holds.within))
-
+module _ (s : Shell) (line out : List ℕ) (same : line ≡ s.line) where
   -- a line that has begun is answered
-  pub ends_begun : 0 < held → (out words cells text : List ℕ) (end : ℕ)
-      → Replies (reply_to (memory_of table store) (asks (take len bytes))) out 0 words cells text end
-      → end ≤ length text
-      → Ends (ended (record { memory = memory_of table store; line = take len bytes })) words cells text end
-  ends_begun some out words cells text end replies inside =
-      rw (ended_begun (memory_of table store) (take len bytes) (omega (arith, length_held)))
-      (record {
-        text = replies.text;
-        inside = inside;
-        memory = replies.memory;
-      })
+  pub ended_begun : 0 < length line → (p : Progress) → p ≡ replied out (reply_to s.memory (asks s.line))
+      → p ≡ replied out (ended s)
+  ended_begun some p is = is ∙ ap (replied out) (sym (begun s.memory s.line (rw same at some)))
 
   -- where none has begun nothing is said
-  pub ends_unbegun : held ≤ 0 → (out : List ℕ)
-      → Ends (ended (record { memory = memory_of table store; line = take len bytes })) table store out 0
-  ends_unbegun none out =
-      rw (ended_unbegun (memory_of table store) (take len bytes) (omega (arith, length_held)))
-      (record { text = refl; inside = omega arith; memory = refl })
+  pub ended_unbegun : length line ≤ 0 → progress_of s out ≡ replied out (ended s)
+  ended_unbegun none = unbegun s.memory s.line out (rw same at none)

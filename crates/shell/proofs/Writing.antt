@@ -2,7 +2,7 @@
 --     writes_on         some bytes are read before the others
 --     TurnsFit          there were no more turns than bytes read, where those are known
 --     turns_on          and so it stays when one more turn reads on
---     prints_from_laid  from what layout left on it is what the whole input prints
+--     prints_from_fresh  from the fresh table on it is what the whole input prints
 use mathlib.Core.Path.{◌≡◌, refl, ap, sym, ◌∙◌}
 use mathlib.Core.Bool.{Bool, true, false, cond}
 use mathlib.Core.List.{List, [], ◌∷◌, ◌++◌, append_assoc, append-nil}
@@ -13,16 +13,10 @@ use lib.ListN.{length, length-append}
 use Rattle.std.specs.Prelude.{⊤, None, Some, Ok, Err, OnOk}
 use Rattle.std.specs.declared.result.Result.{Result}
 use Rattle.std.specs.declared.option.Option.{Option}
-use Rattle.types.specs.Sizes.{hub, table_length, store_length}
-use Rattle.types.specs.Answers.{Answer}
-use Rattle.tables.specs.Outcomes.{layout_outcome}
-use Rattle.tables.specs.Given.{Gives}
 use Rattle.lines.specs.Commands.{asks}
 use Rattle.inputs.specs.Inputs.{reply_to, fresh}
 use Rattle.inputs.specs.Reads.{Shell, Progress, kept, replied, next, after, taken, ended, said_for}
-use Rattle.inputs.proofs.Fresh.{layout_is_fresh}
 use Rattle.inputs.proofs.ReadsPrint.{reads_print}
-use Rattle.replies.specs.Replies.{memory_of}
 use Rattle.shell.specs.Pipes.{IsShort, Writes, PrintsAll, ReadsOn}
 
 -- what was said before goes before what is said later
@@ -107,14 +101,9 @@ prints_all : (left held holds : Option (List ℕ))
 prints_all None held holds writes = tt
 prints_all (Some bytes) held holds writes = rw (reads_print (bytes ∷ []), append-nil) at writes
 
-module _ (table store words bytes : List ℕ) (answer : Answer) (table_is : length table ≡ table_length hub)
-    (store_is : length store ≡ store_length hub) (gives : Gives (layout_outcome hub table store) answer words bytes) where
-  laid : memory_of words bytes ≡ fresh
-  laid = (λ i. record { table = gives.table i; store = gives.store i }) ∙ layout_is_fresh table store table_is store_is
-
-  -- from what layout left on
-  pub prints_from_laid : {A E : Type 0} (r : Result A E) (left held holds : Option (List ℕ))
-      → OnOk r (IsShort left → Writes left (record { memory = memory_of words bytes; line = [] }) held holds)
-      → OnOk r (IsShort left → PrintsAll left held holds)
-  prints_from_laid (Ok x) left held holds writes = λ short. prints_all left held holds (rw laid at (writes short))
-  prints_from_laid (Err e) left held holds writes = tt
+-- from the fresh table on
+pub prints_from_fresh : {A E : Type 0} (r : Result A E) (left held holds : Option (List ℕ)) (s : Shell)
+    → s ≡ record { memory = fresh; line = [] } → OnOk r (IsShort left → Writes left s held holds)
+    → OnOk r (IsShort left → PrintsAll left held holds)
+prints_from_fresh (Ok x) left held holds s is writes = λ short. prints_all left held holds (rw is at (writes short))
+prints_from_fresh (Err e) left held holds s is writes = tt

@@ -1,84 +1,94 @@
 // The shell over the label index: it takes the bytes of an input as they come, and the input's end, and puts what it
-// says into a lent buffer. Reading and writing have a module of their own.
+// says behind a text. Reading and writing have a module of their own.
 #![tactic(auto)]
 
 pub mod pipes;
 
-ghost use Rattle.std.specs.Prelude.{◌≡◌, ◌+◌, ◌*◌, ◌≤◌, length};
-ghost use Rattle.inputs.specs.Reads.{next, taken, ended};
-ghost use Rattle.shell.specs.Shells.{shell_of, progress_of, Ends};
-
 use keeps::Line;
+use std::marker::Model;
+use texts::Text;
 
-// What is kept of the line that has begun, and where the text that was put ends.
-#[derive(Clone, Copy)]
-pub struct Progress {
-    pub line: Line,
-    pub end: usize,
-}
-
-// Takes the next bytes of the input: answers the lines that they end, and keeps the one that they begin. The answers'
-// lines are put at the front of `out`, which has room for a line of 96 bytes for each byte.
-pub fn take(
-    table: &mut [u16],
-    store: &mut [u8],
+// What is kept between two reads: the memory of the index, and the line that has begun. An array's length cannot be
+// computed: both are stated.
+#[derive(Drop)]
+pub struct Shell {
+    table: [u16; 4100],
+    store: [u8; 32768],
     line: Line,
-    bytes: &[u8],
-    out: &mut [u8],
-) -> Progress
-    requires { 96 * length bytes.now ≤ length out.old }
-    ensures result_after { progress_of table.new store.new out.new result
-        ≡ taken (shell_of table.old store.old line) bytes.now }
-    ensures end_in_bounds { result.end ≤ length out.new }
-{
-    let mut progress = Progress { line, end: 0 };
-    let mut i = 0;
-    while i < bytes.len() {
-        progress = take_byte(table, store, progress, bytes[i], out);
-        i += 1;
-    }
-    progress
 }
 
-// The input's end: answers the line that has begun, if it has a byte; gives the length of what is put in `out`.
-pub fn finish(table: &mut [u16], store: &mut [u8], line: Line, out: &mut [u8]) -> usize
-    requires { 96 ≤ length out.old }
-    ensures { Ends (ended (shell_of table.old store.old line))
-        table.new store.new out.new result }
-{
-    let bytes = line.bytes;
-    let len = keeps::held(&bytes, line.len);
-    let begun = len > 0;
-    if begun {
-        return replies::reply(table, store, line, out, 0);
-    }
-    0
+impl Model for Shell {
+    ghost use Rattle.inputs.specs.Reads.{Shell as Kept};
+
+    ghost Value = { Kept };
+
+    ghost use Rattle.tables.specs.Written.{lent};
+
+    ghost view = { λ s. record { memory = lent s.table s.store; line = s.line } };
 }
 
-// Takes a byte: a byte 10 ends the line, which is answered, and any other is kept.
-fn take_byte(
-    table: &mut [u16],
-    store: &mut [u8],
-    progress: Progress,
-    byte: u8,
-    out: &mut [u8],
-) -> Progress
-    requires { progress.end + 96 ≤ length out.old }
-    ensures result_after { progress_of table.new store.new out.new result
-        ≡ next (progress_of table.old store.old out.old progress) byte }
-    ensures end_bound { result.end ≤ progress.end + 96 }
-{
-    let line = progress.line;
-    let place = progress.end;
-    if byte == 10 {
-        let end = replies::reply(table, store, line, out, place);
-        return Progress {
-            line: keeps::fresh(),
-            end,
-        };
+impl Shell {
+    ghost use Rattle.std.specs.Prelude.{◌≡◌, ◌+◌, ◌*◌, ◌≤◌, [], length};
+    ghost use Rattle.lines.specs.Commands.{asks};
+    ghost use Rattle.inputs.specs.Inputs.{reply_to, fresh};
+    ghost use Rattle.inputs.specs.Reads.{next, after, replied, ended};
+    ghost use Rattle.shell.specs.Shells.{progress_of, Says};
+
+    // A fresh table, and no line that has begun.
+    pub fn new() -> Self
+        ensures { result ≡ record { memory = fresh; line = [] } }
+    {
+        let mut table = [0; 4100];
+        let mut store = [0; 32768];
+        let _ = index::layout(&mut table, &mut store);
+        Shell {
+            table,
+            store,
+            line: Line::new(),
+        }
     }
-    Progress {
-        line: keeps::keep(line, byte),
-        end: place,
+
+    // Takes the next bytes of the input: answers the lines that they end, and keeps the one that they begin. The answers'
+    // lines have room, 96 bytes for each byte.
+    pub fn take<const N: usize>(&mut self, bytes: &[u8], out: &mut Text<N>)
+        requires { length out.old + 96 * length bytes.now ≤ N }
+        ensures { progress_of self.new out.new ≡ after (progress_of self.old out.old) bytes.now }
+    {
+        for byte in bytes {
+            self.take_byte(*byte, out);
+        }
+    }
+
+    // The input's end: answers the line that has begun, if it has a byte.
+    pub fn finish<const N: usize>(&mut self, out: &mut Text<N>)
+        requires { length out.old + 96 ≤ N }
+        ensures { progress_of self.new out.new ≡ replied out.old (ended self.old) }
+    {
+        let begun = !self.line.bytes().is_empty();
+        if begun {
+            self.answer(out);
+        }
+    }
+
+    // Takes a byte: a byte 10 ends the line, which is answered, and any other is kept.
+    fn take_byte<const N: usize>(&mut self, byte: u8, out: &mut Text<N>)
+        requires { length out.old + 96 ≤ N }
+        ensures { Says out.old (next (progress_of self.old out.old) byte) self.new out.new }
+    {
+        if byte == b'\n' {
+            self.answer(out);
+        } else {
+            self.line.push(byte);
+        }
+    }
+
+    // Answers the line that has begun: its answer's line is put, and nothing is kept of it.
+    fn answer<const N: usize>(&mut self, out: &mut Text<N>)
+        requires { length out.old + 96 ≤ N }
+        ensures { Says out.old (replied out.old (reply_to self.old.memory (asks self.old.line)))
+            self.new out.new }
+    {
+        replies::reply(&mut self.table, &mut self.store, self.line.bytes(), out);
+        self.line = Line::new();
     }
 }

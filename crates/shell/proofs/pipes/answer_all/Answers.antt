@@ -6,6 +6,6 @@ use Rattle.shell.proofs.pipes.answer_all.Goals as goal
 pub loop-turn-preserved : goal.loop-turn-preserved
 loop-turn-preserved g c = record {
   written = λ holds writes. c.loop-turn.invariant.written holds
-      (writes_on _ _ _ _ _ _ _ (c.in_ok-after.ensures.more (search rules)) writes);
-  turns = turns_on _ _ _ _ _ _ _ _ c.loop-turn.invariant.turns (c.in_ok-after.ensures.more (search rules));
+      (writes_on _ _ _ _ _ _ _ (c.in_ok-more.ensures.more (search rules)) writes);
+  turns = turns_on _ _ _ _ _ _ _ _ c.loop-turn.invariant.turns (c.in_ok-more.ensures.more (search rules));
 }
