@@ -1,17 +1,16 @@
 -- The lines of the labels held, by what the listing gives in a list of as many words as there are slots.
 --     listed_count   the slots that it lists are at most as many
---     listed_put     the lines of these slots, put at a place, are those of the labels
+--     listed_put     the lines of these slots are those of the labels
 --     unlisted_put   memory that it refuses has no lines
 use mathlib.Core.Bool.{not}
-use mathlib.Core.List.{List, [], ◌++◌, map}
+use mathlib.Core.List.{List, [], ◌++◌, map, append-nil}
 use mathlib.Core.Path.{◌≡◌, refl, sym, ap}
 use Prim.Native.Nat.{ℕ, ◌*◌, ◌≤◌}
 use native.Mathlib.Omega.{arith}
 use borrow.Author.Tests.{le-ltb, not-false}
 use lib.ListN.{length, take, drop, length-take}
 use lib.Seq.{take_at}
-use Rattle.types.specs.declared.ListAnswer.{ListAnswer}
-use Rattle.types.specs.declared.ListAnswer.TheVariants as answers
+use Rattle.std.specs.Prelude.{Result, Ok, Err}
 use Rattle.types.specs.declared.Refusal.{Refusal}
 use Rattle.types.specs.Sizes.{hub}
 use Rattle.types.specs.Answers.{listed, refused, list_says}
@@ -26,8 +25,7 @@ use Rattle.verdicts.proofs.WholeTests.{whole_decides}
 use Rattle.verdicts.specs.Verdicts.{of_whole}
 use Rattle.lists.specs.Given.{Lists}
 use Rattle.texts.specs.Puts.{Puts}
-use Rattle.texts.proofs.Buffers.{put_nothing}
-use Rattle.texts.proofs.Answers.{roomier}
+use Rattle.texts.proofs.Parts.{roomier}
 use Rattle.index.proofs.Sizes.{at_hub}
 use Rattle.printouts.specs.Printouts.{lines_for, label_lines}
 use Rattle.printouts.specs.Rooms.{line_room}
@@ -65,14 +63,14 @@ module _ (table store list : List ℕ) (room : length list ≡ hub.slots) where
   ways = by_tests (whole_decides hub table store)
 
 -- what was said of a listing, by its two ways
-module _ (table store list after : List ℕ) (answer : ListAnswer) where
+module _ (table store list after : List ℕ) (answer : Result ℕ Refusal) where
   -- the slots that are listed
   record Listed (count : ℕ) : Type 0 where
     few : count ≤ hub.slots
     lines : lines_for (map (shown_at (lent table store)) (take count after)) ≡ label_lines (lent table store)
 
   way_listed : (listing : Listing) → Ways table store list listing → Lists listing (list_says answer) after
-      → (count : ℕ) → answer ≡ answers.Listed count → Listed count
+      → (count : ℕ) → answer ≡ Ok count → Listed count
   way_listed listing (all ks few lines) lists count is =
       let same : count ≡ length ks = cc in
       record {
@@ -82,28 +80,29 @@ module _ (table store list after : List ℕ) (answer : ListAnswer) where
   way_listed listing (none number no_lines) lists count is = clash cc
 
   way_refused : (listing : Listing) → Ways table store list listing → Lists listing (list_says answer) after
-      → (r : Refusal) → answer ≡ answers.Refused r → label_lines (lent table store) ≡ []
+      → (r : Refusal) → answer ≡ Err r → label_lines (lent table store) ≡ []
   way_refused listing (all ks few lines) lists r is = clash cc
   way_refused listing (none number no_lines) lists r is = no_lines
 
   module _ (room : length list ≡ hub.slots)
       (lists : Lists (listing_outcome hub table store list) (list_says answer) after) where
     -- the slots that it lists are at most as many
-    pub listed_count : (count : ℕ) → answer ≡ answers.Listed count → count ≤ hub.slots
+    pub listed_count : (count : ℕ) → answer ≡ Ok count → count ≤ hub.slots
     listed_count count is = (way_listed _ (ways table store list room) lists count is).few
 
-    -- the lines of these slots, put at a place, are those of the labels
-    pub listed_put : (count : ℕ) → answer ≡ answers.Listed count → (out text : List ℕ) (place end : ℕ)
-        → Puts out place (lines_for (map (shown_at (lent table store)) (take count after)))
-        (line_room * length (take count after)) text end
-        → Puts out place (label_lines (lent table store)) (line_room * hub.slots) text end
-    listed_put count is out text place end puts =
+    -- the lines of these slots are those of the labels
+    pub listed_put : (count : ℕ) → answer ≡ Ok count → (before out : List ℕ)
+        → Puts before (lines_for (map (shown_at (lent table store)) (take count after)))
+        (line_room * length (take count after)) out
+        → Puts before (label_lines (lent table store)) (line_room * hub.slots) out
+    listed_put count is before out puts =
         let found = way_listed _ (ways table store list room) lists count is in
         let within : length (take count after) ≤ hub.slots = rw length-take (omega (arith, found.few)) in
-        rw (← found.lines) (roomier (line_room * hub.slots) (omega arith) puts)
+        rw (← found.lines) (roomier puts (line_room * hub.slots) (omega arith))
 
     -- memory that it refuses has no lines
-    pub unlisted_put : (r : Refusal) → answer ≡ answers.Refused r → (out : List ℕ) (place : ℕ)
-        → Puts out place (label_lines (lent table store)) (line_room * hub.slots) out place
-    unlisted_put r is out place =
-        rw (way_refused _ (ways table store list room) lists r is) (put_nothing out place (line_room * hub.slots))
+    pub unlisted_put : (r : Refusal) → answer ≡ Err r → (before : List ℕ)
+        → Puts before (label_lines (lent table store)) (line_room * hub.slots) before
+    unlisted_put r is before =
+        rw (way_refused _ (ways table store list room) lists r is)
+        (record { text = sym (append-nil before); room = omega arith })

@@ -2,10 +2,9 @@
 --     printed         the answer's line and those of the labels make the printout
 --     printed_fresh   on what layout left it is the one on a fresh table
 use mathlib.Core.Path.{◌≡◌, ap, ap₂, ◌∙◌}
-use mathlib.Core.List.{List, ◌++◌}
-use Prim.Native.Nat.{ℕ, ◌*◌, ◌≤◌}
-use native.Mathlib.Omega.{arith}
-use lib.ListN.{length, take}
+use mathlib.Core.List.{List, ◌++◌, append_assoc}
+use Prim.Native.Nat.{ℕ, ◌*◌}
+use lib.ListN.{length}
 use Rattle.types.specs.Sizes.{hub, table_length, store_length}
 use Rattle.types.specs.Answers.{Answer}
 use Rattle.types.specs.RosterReplies.{RosterReply}
@@ -16,19 +15,17 @@ use Rattle.rfc4180.specs.Rosters.{roster_outcome, TakesRoster}
 use Rattle.texts.specs.Puts.{Puts}
 use Rattle.inputs.proofs.Fresh.{layout_is_fresh}
 use Rattle.printouts.specs.Printouts.{answer_line, label_lines, printed_for, printout}
-use Rattle.printouts.specs.Rooms.{answer_room, line_room, print_room}
+use Rattle.printouts.specs.Rooms.{answer_room, line_room}
 use Rattle.printing.specs.Prints.{Prints}
 
 -- the answer's line and those of the labels make the printout
 pub printed : (table store text words bytes : List ℕ) (given : RosterReply)
     → TakesRoster (roster_outcome hub table store text) given words bytes
-    → (out middle after : List ℕ) (place end : ℕ) → Puts out 0 (answer_line given) answer_room middle place
-    → Puts middle place (label_lines (lent words bytes)) (line_room * hub.slots) after end
-    → print_room ≤ length after
-    → Prints (roster_outcome hub table store text) words bytes after end
-printed table store text words bytes given takes out middle after place end line lines room = record {
+    → (before middle after : List ℕ) → Puts before (answer_line given) answer_room middle
+    → Puts middle (label_lines (lent words bytes)) (line_room * hub.slots) after
+    → Prints (roster_outcome hub table store text) before words bytes after
+printed table store text words bytes given takes before middle after line lines = record {
   text = whole;
-  inside = omega (arith, line.room, lines.room);
   table = takes.table;
   store = takes.store;
 }
@@ -36,19 +33,19 @@ printed table store text words bytes given takes out middle after place end line
     left : lent words bytes ≡ (roster_outcome hub table store text).memory
     left = λ i. record { table = takes.table i; store = takes.store i }
 
-    whole : take end after ≡ printed_for (roster_outcome hub table store text)
+    whole : after ≡ before ++ printed_for (roster_outcome hub table store text)
     whole =
-        lines.front ∙ ap (λ (front : List ℕ). front ++ label_lines (lent words bytes)) line.front
-        ∙ ap₂ ◌++◌ (ap answer_line takes.answer) (ap label_lines left)
+        rw (lines.text, line.text, append_assoc)
+        (ap (λ (l : List ℕ). before ++ l) (ap₂ ◌++◌ (ap answer_line takes.answer) (ap label_lines left)))
 
 -- on what layout left it is the one on a fresh table
 pub printed_fresh : (table store words bytes : List ℕ) (answer : Answer)
     → length table ≡ table_length hub → length store ≡ store_length hub
-    → Gives (layout_outcome hub table store) answer words bytes → (text after cells out : List ℕ) (end : ℕ)
-    → Prints (roster_outcome hub words bytes text) after cells out end → take end out ≡ printout text
+    → Gives (layout_outcome hub table store) answer words bytes → (text before after cells out : List ℕ)
+    → Prints (roster_outcome hub words bytes text) before after cells out → out ≡ before ++ printout text
 unfolding printout
-printed_fresh table store words bytes answer length_is size_is gives text after cells out end prints =
+printed_fresh table store words bytes answer length_is size_is gives text before after cells out prints =
     let laid = layout_is_fresh table store length_is size_is in
     let table_is = gives.table ∙ ap (λ (m : Memory). m.table) laid in
-    let Store-is = gives.store ∙ ap (λ (m : Memory). m.store) laid in
-    prints.text ∙ rw (table_is, Store-is)
+    let store_is = gives.store ∙ ap (λ (m : Memory). m.store) laid in
+    prints.text ∙ rw (table_is, store_is)

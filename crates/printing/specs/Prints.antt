@@ -1,5 +1,5 @@
 -- How the contracts say what is shown of a slot, and what is printed.
-use Rattle.std.specs.Prelude.{◌≡◌, List, ℕ, ◌≤◌, length, take}
+use Rattle.std.specs.Prelude.{◌≡◌, List, ◌++◌, ℕ}
 use Rattle.types.specs.Sizes.{hub}
 use Rattle.trees.specs.Trees.{Entry}
 use Rattle.tables.specs.Words.{row_at}
@@ -18,9 +18,8 @@ shown_at m k =
       charge = (row_at m.table k).charge;
     }
 
--- the text for an outcome stands at the front of a buffer, and its memory is left
-pub record Prints (outcome : RosterOutcome) (words bytes out : List ℕ) (end : ℕ) : Type 0 where
-  pub text : take end out ≡ printed_for outcome
-  pub inside : end ≤ length out
+-- the text for an outcome is put behind a text, and its memory is left
+pub record Prints (outcome : RosterOutcome) (before words bytes out : List ℕ) : Type 0 where
+  pub text : out ≡ before ++ printed_for outcome
   pub table : words ≡ outcome.memory.table
   pub store : bytes ≡ outcome.memory.store

@@ -4,6 +4,7 @@ ghost use Rattle.printing.specs.Pipes.{PrintsAll};
 
 use std::io;
 use std::io::{Read, Write};
+use texts::Text;
 
 // Prints for the text of an input: where the bytes of both are known, what is written is the printout of the whole
 // text. A text is read up to one byte above the longest that is taken, so that a longer one
@@ -12,14 +13,15 @@ pub fn run<R: Read, W: Write>(input: &mut R, output: &mut W) -> io::Result<()>
     ensures { OnOk result (PrintsAll (R.remaining input.old)
         (W.contents output.old) (W.contents output.new)) }
 {
-    let mut text = [0u8; 16385];
-    let mut out = [0u8; 54836];
+    let mut text = [0; 16385];
+    let mut out = Text::<54836>::new();
     let len = read_full(input, &mut text)?;
-    let end = crate::print(&text[..len], &mut out);
-    output.write_all(&out[..end])
+    crate::print(&text[..len], &mut out);
+    output.write_all(out.bytes())
 }
 
-// Reads until the text is full or the input ends; gives how many bytes it put at the front.
+// Reads until the text is full or the input ends; gives how many bytes it put at the front. std reads to the end into a
+// `Vec` alone, which needs the heap.
 fn read_full<R: Read>(input: &mut R, text: &mut [u8]) -> io::Result<usize>
     ensures inside { IfOk result (λ len. len ≤ length text.new) }
     ensures front { IfOk result (λ len. IfSome (R.remaining input.old)

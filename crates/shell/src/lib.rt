@@ -64,7 +64,8 @@ impl Shell {
         requires { length out.old + 96 ≤ N }
         ensures { progress_of self.new out.new ≡ replied out.old (ended self.old) }
     {
-        let begun = !self.line.bytes().is_empty();
+        let len = self.line.bytes().len();
+        let begun = len > 0;
         if begun {
             self.answer(out);
         }
