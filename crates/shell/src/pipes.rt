@@ -28,8 +28,9 @@ fn answer_all<R: Read, W: Write>(input: &mut R, output: &mut W, shell: &mut Shel
         → Writes (R.remaining input.old) shell.old
         (W.contents output.old) (W.contents output.new)) }
 {
+    let mut out = Text::new();
     for turn in 0..u64::MAX {
-        let more = answer_read(input, output, shell)?;
+        let more = answer_read(input, output, shell, &mut out)?;
         if !more {
             return Ok(());
         }
@@ -37,11 +38,13 @@ fn answer_all<R: Read, W: Write>(input: &mut R, output: &mut W, shell: &mut Shel
     Ok(())
 }
 
-// Reads once, and answers what was read, or the input's end; gives whether more may come.
+// Reads once, and answers what was read, or the input's end; gives whether more may come. What is said is put together
+// in `out`.
 fn answer_read<R: Read, W: Write>(
     input: &mut R,
     output: &mut W,
     shell: &mut Shell,
+    out: &mut Text<49152>,
 ) -> io::Result<bool>
     ensures more { IfOk result (λ more. IsTrue more
         → ReadsOn (R.remaining input.old) (R.remaining input.new)
@@ -51,14 +54,14 @@ fn answer_read<R: Read, W: Write>(
         → Appends (W.contents output.old) (W.contents output.new) (ended shell.old).text) }
 {
     let mut chunk = [0; 512];
-    let mut out = Text::<49152>::new();
     let n = input.read(&mut chunk)?;
+    out.clear();
     if n == 0 {
-        shell.finish(&mut out);
+        shell.finish(out);
         output.write_all(out.bytes())?;
         return Ok(false);
     }
-    shell.take(&chunk[..n], &mut out);
+    shell.take(&chunk[..n], out);
     output.write_all(out.bytes())?;
     Ok(true)
 }
