@@ -25,7 +25,6 @@ use Rattle.verdicts.proofs.WholeTests.{whole_decides}
 use Rattle.verdicts.specs.Verdicts.{of_whole}
 use Rattle.lists.specs.Given.{Lists}
 use Rattle.texts.specs.Puts.{Puts}
-use Rattle.texts.proofs.Parts.{roomier}
 use Rattle.index.proofs.Sizes.{at_hub}
 use Rattle.printouts.specs.Printouts.{lines_for, label_lines}
 use Rattle.printouts.specs.Rooms.{line_room}
@@ -98,7 +97,7 @@ module _ (table store list after : List ℕ) (answer : Result ℕ Refusal) where
     listed_put count is before out puts =
         let found = way_listed _ (ways table store list room) lists count is in
         let within : length (take count after) ≤ hub.slots = rw length-take (omega (arith, found.few)) in
-        rw (← found.lines) (roomier puts (line_room * hub.slots) (omega arith))
+        rw (← found.lines) (record { text = puts.text; room = omega (arith, puts.room, within) })
 
     -- memory that it refuses has no lines
     pub unlisted_put : (r : Refusal) → answer ≡ Err r → (before : List ℕ)

@@ -14,6 +14,7 @@ use texts::Text;
 use types::RefusedRecord;
 
 // Puts the answer's line.
+#[tactic(auto, unfolding(crate::specs::Printouts::answer_line))]
 pub fn put_answer<const N: usize>(answer: Result<usize, RefusedRecord>, out: &mut Text<N>)
     requires { length out.old + answer_room ≤ N }
     ensures { Puts out.old (answer_line (roster_says answer)) answer_room out.new }
@@ -28,6 +29,7 @@ pub fn put_answer<const N: usize>(answer: Result<usize, RefusedRecord>, out: &mu
 }
 
 // Puts the line for a refusal at a record.
+#[tactic(auto, unfolding(crate::specs::Printouts::answer_line))]
 fn put_refusal<const N: usize>(at: RefusedRecord, out: &mut Text<N>)
     requires { length out.old + answer_room ≤ N }
     ensures { Puts out.old (answer_line (refused at.number (refusal_number at.refusal)))
@@ -49,6 +51,7 @@ fn put_last<const N: usize>(out: &mut Text<N>, number: usize)
 }
 
 // Puts the line of a label with its slot and its value.
+#[tactic(auto, unfolding(crate::specs::Printouts::line_with))]
 pub fn put_line<const N: usize>(slot: u16, value: u16, label: &[u8], out: &mut Text<N>)
     requires label_len_bound { length label.now ≤ hub.width }
     requires line_room_in_bounds { length out.old + line_room ≤ N }

@@ -14,6 +14,7 @@ pub enum Said {
     Search(Result<Searched, Refusal>),
 }
 
+#[tactic(auto, unfolding(crate::specs::Texts::text_of, crate::specs::Texts::bad_text))]
 impl<const N: usize> Text<N> {
     ghost use Rattle.std.specs.Prelude.{◌++◌, ◌≤◌, ◌+◌, length};
     ghost use Rattle.types.specs.Answers.{search_says, update_says, refusal_number, refused};

@@ -1,5 +1,5 @@
 use Rattle.std.proofs.Common.{arith, ◌∙◌}
-use Rattle.texts.proofs.Parts.{decimal_put}
+use Rattle.texts.proofs.Digits.{decimal_put}
 use Rattle.texts.proofs.text.Text.put_decimal.Goals as goal
 
 pub returns : goal.returns

@@ -1,10 +1,7 @@
--- Bytes put behind a text one after the other.
---     put_then       bytes put behind others make one text
---     roomier        room for more bytes does no harm
---     decimal_put    the digits that the library gives are those of a number
+-- The digits that the library gives are those of a number: `decimal_put`.
 use mathlib.Core.Path.{◌≡◌, sym, ap, ◌∙◌}
-use mathlib.Core.List.{List, ◌++◌, append_assoc}
-use Prim.Native.Nat.{ℕ, ◌+◌, ◌^◌, ◌≤◌, ◌<◌}
+use mathlib.Core.List.{List, ◌++◌}
+use Prim.Native.Nat.{ℕ, ◌^◌, ◌≤◌, ◌<◌}
 use native.Mathlib.Omega.{arith}
 use borrow.Author.Tests.{lt-ltb, le-ltb}
 use lib.ListN.{length}
@@ -12,19 +9,6 @@ use Rattle.std.specs.Fmt as std
 use Rattle.std.proofs.lemmas.Fmt.{AppendsLastDigit, decimal_from_appends, length-decimal-le}
 use Rattle.texts.specs.Texts.{decimal, decimal_with}
 use Rattle.texts.specs.Puts.{Puts}
-
-module _ {before bytes middle : List ℕ} {most : ℕ} (puts : Puts before bytes most middle) where
-  -- bytes put behind others make one text
-  pub put_then : {more after : List ℕ} {further : ℕ} → Puts middle more further after
-      → Puts before (bytes ++ more) (most + further) after
-  put_then next = record {
-    text = rw (next.text, puts.text, append_assoc);
-    room = omega (arith, puts.room, next.room);
-  }
-
-  -- room for more bytes does no harm
-  pub roomier : (further : ℕ) → most ≤ further → Puts before bytes further middle
-  roomier further less = record { text = puts.text; room = omega (arith, puts.room) }
 
 last_digit : AppendsLastDigit decimal_with
 last_digit = record {
