@@ -22,6 +22,7 @@ pub fn list_from(
     requires { ListFits limits table.now at remaining }
     ensures { Filled (slots_from limits table.now remaining link) list.old at list.new result }
 {
+    // No walk shared with those of `saves`: after one that calls a closure, no proof knows what the closure wrote.
     if remaining == 0 {
         return at;
     }

@@ -51,6 +51,7 @@ pub fn count_from(
     requires { CountFits limits table.now store.now remaining link }
     ensures { result ≡ length (entries_from limits table.now store.now remaining link) }
 {
+    // No walk shared with `write_from`: after one that calls a closure, no proof knows what the closure wrote.
     if remaining == 0 {
         return 0;
     }
