@@ -1,12 +1,12 @@
 -- A node over its two sons, as the soundness test finds it.
-use Rattle.std.specs.Prelude.{◌&&◌, cond, ℕ, ◌+◌, max, eqb, leb}
+use Rattle.std.specs.Prelude.{◌&&◌, cond, ℕ, ◌+◌, max, eqb, leb, Option, Some, None}
 use Rattle.tables.specs.Prefix.{balance_of}
 use Rattle.heights.specs.declared.Subtree.{Subtree}
-use Rattle.heights.specs.declared.Subtree.TheVariants.{Unsound, Sound}
 
 -- a node over its sons: the height rule, and the true balance
-unfoldable pub over : (balance : ℕ) → Subtree → Subtree → Subtree
-over balance Unsound r = Unsound
-over balance (Sound h c) Unsound = Unsound
-over balance (Sound h c) (Sound k d) =
-    cond (leb h (k + 1) && (leb k (h + 1) && eqb balance (balance_of h k))) (Sound (max h k + 1) (c + d + 1)) Unsound
+unfoldable pub over : (balance : ℕ) → Option Subtree → Option Subtree → Option Subtree
+over balance None r = None
+over balance (Some l) None = None
+over balance (Some l) (Some r) =
+    cond (leb l.height (r.height + 1) && (leb r.height (l.height + 1) && eqb balance (balance_of l.height r.height)))
+    (Some (record { height = max l.height r.height + 1; count = l.count + r.count + 1 })) None
