@@ -1,2 +1,1 @@
 pub mod ZeroLaws
-pub mod PassedLaws

@@ -1,126 +1,129 @@
--- Zeros in a list, tested one after the other or several at once.
--- `zeros_done`, `zeros_broken`, `zeros_next`: what a test of one number after the other finds at an index.
--- `zeros_broken_by`, `zeros_on_by`: what a test of several numbers at once finds there.
--- `four_words_zero`, `packed_zero`: several numbers are zero where the one number made of them is.
--- `split_zeros`, `take_zeros`, `rows_zero`: two rows of numbers are zero where each is.
-use Prim.Native.Nat.{ℕ, zero, suc, ◌+◌, ◌*◌, ◌≤◌, ◌<◌}
+-- Zeros in a list, of which several numbers are tested at once.
+-- `gathered_zero`: numbers are zero where the number of all their bits is. `list_all_zero`: tested one after the other.
+-- `chunks_broken`, `chunks_passed`: a list is zero where its chunks are, and what they leave.
+-- `last_settles`: where it is as its end from an index on, an end that begins before settles it.
+-- `blocks_broken`, `eights_broken`, `last_decides`: what the tests of bytes find.
+use Prim.Native.Nat.{ℕ, zero, suc, ◌+◌, ◌-◌, ◌*◌, ◌/◌, ◌≤◌}
 use mathlib.Core.Path.{◌≡◌, refl, sym, ap, ◌∙◌}
 use mathlib.Core.List.{List, [], ◌∷◌, ◌++◌}
 use mathlib.Core.Bool.{Bool, true, false, ◌&&◌}
-use native.Mathlib.Numerals.{add-one}
 use native.Mathlib.Omega.{arith}
 use lib.Dec.{eqb}
-use lib.ListN.{length, get_or, take, drop, take-append-drop, drop_of_length-le}
-use lib.Seq.{drop-cons, drop-drop, take-add}
-use borrow.Author.Tests.{eq-eqb, ne_eqb}
+use lib.ListN.{length, take, drop, take-append-drop, length-drop}
+use lib.Seq.{drop-drop}
+use borrow.Author.Tests.{ne_eqb}
+use Rattle.std.specs.Int.Bits.{bit_or, or_zero_l, or_add_and, and_le_r}
+use Rattle.std.specs.List.{fold, list_all}
+use Rattle.std.specs.Simd.{first_chunks}
+use Rattle.trees.proofs.Views.{both_true}
 use Rattle.tables.specs.Sound.{all_zero}
-use Rattle.eights.specs.Eights.{Packed, packs_none, packs}
 
--- two lists in a row are zero where each is
+-- ---- one number of all bits
+
+or_zero : (a b : ℕ) → eqb (bit_or a b) 0 ≡ eqb a 0 && eqb b 0
+or_zero zero b = ap (λ n. eqb n 0) (or_zero_l b)
+or_zero (suc a) b =
+    rw (ne_eqb (suc a) 0 (λ e. omega arith))
+    (ne_eqb (bit_or (suc a) b) 0 (λ e. omega (arith, or_add_and (suc a) b, and_le_r (suc a) b, e)))
+
+both_false : (a : Bool) → a && false ≡ false
+both_false true = refl
+both_false false = refl
+
+both_assoc : (a b c : Bool) → (a && b) && c ≡ a && (b && c)
+both_assoc true b c = refl
+both_assoc false b c = refl
+
+gathered_from : (a : ℕ) (xs : List ℕ) → eqb (fold bit_or a xs) 0 ≡ eqb a 0 && all_zero xs
+gathered_from a [] = both_true_right (eqb a 0)
+  where
+    both_true_right : (t : Bool) → t ≡ t && true
+    both_true_right true = refl
+    both_true_right false = refl
+gathered_from a (x ∷ xs) = gathered_from (bit_or a x) xs ∙ rw or_zero (both_assoc (eqb a 0) (eqb x 0) (all_zero xs))
+
+pub gathered_zero : (r : ℕ) (xs : List ℕ) → r ≡ fold bit_or 0 xs → eqb r 0 ≡ all_zero xs
+gathered_zero r xs e = rw e (gathered_from 0 xs)
+
+-- ---- one number after the other
+
+pub list_all_zero : (xs : List ℕ) → list_all (λ n. eqb n 0) xs ≡ all_zero xs
+list_all_zero [] = refl
+list_all_zero (x ∷ xs) = ap (λ t. eqb x 0 && t) (list_all_zero xs)
+
+-- ---- chunks
+
 append_zeros : (a b : List ℕ) → all_zero (a ++ b) ≡ all_zero a && all_zero b
 append_zeros [] b = refl
-append_zeros (x ∷ a) b = rw (append_zeros a b) (cases (eqb x 0))
+append_zeros (x ∷ a) b = rw (append_zeros a b) (sym (both_assoc (eqb x 0) (all_zero a) (all_zero b)))
+
+split_zeros : (n : ℕ) (xs : List ℕ) → all_zero xs ≡ all_zero (take n xs) && all_zero (drop n xs)
+split_zeros n xs = rw append_zeros at (ap all_zero (sym (take-append-drop n xs)))
+
+chunks_zero : (n k : ℕ) (xs : List ℕ)
+    → all_zero xs ≡ list_all all_zero (first_chunks n k xs) && all_zero (drop (k * n) xs)
+chunks_zero n zero xs = let none : 0 * n ≡ 0 = omega arith in rw none
+chunks_zero n (suc k) xs =
+    let more : n + k * n ≡ suc k * n = omega arith in
+    split_zeros n xs
+    ∙ ap (λ t. all_zero (take n xs) && t) (chunks_zero n k (drop n xs))
+    ∙ sym (both_assoc (all_zero (take n xs)) (list_all all_zero (first_chunks n k (drop n xs))) _)
+    ∙ rw (drop-drop (k * n) n xs, more)
+
+module _ (n k : ℕ) (xs : List ℕ) (t : Bool) (tested : t ≡ list_all all_zero (first_chunks n k xs)) where
+  -- a chunk is not zero
+  pub chunks_broken : t ≡ false → false ≡ all_zero xs
+  chunks_broken f = rw (sym tested ∙ f) at (sym (chunks_zero n k xs))
+
+  -- each is
+  pub chunks_passed : t ≡ true → all_zero (drop (k * n) xs) ≡ all_zero xs
+  chunks_passed e = rw (sym tested ∙ e) at (sym (chunks_zero n k xs))
+
+-- ---- the last numbers
+
+pub last_settles : (xs : List ℕ) (i j : ℕ) → i ≤ j → all_zero xs ≡ all_zero (drop j xs)
+    → all_zero (drop i xs) ≡ all_zero xs
+last_settles xs i j before e = go (all_zero (drop i xs)) refl
   where
-    cases : (t : Bool) → t && (all_zero a && all_zero b) ≡ (t && all_zero a) && all_zero b
-    cases true = refl
-    cases false = refl
+    step : i + (j - i) ≡ j
+    step = omega arith
 
--- a list is zero where its first n numbers are and the others are
-pub split_zeros : (n : ℕ) (l : List ℕ) → all_zero l ≡ all_zero (take n l) && all_zero (drop n l)
-split_zeros n l = rw append_zeros at (ap all_zero (sym (take-append-drop n l)))
+    go : (t : Bool) → all_zero (drop i xs) ≡ t → t ≡ all_zero xs
+    go true is =
+        let rest = split_zeros (j - i) (drop i xs) in
+        sym ((both_true (all_zero (take (j - i) (drop i xs))) _).0 (sym rest ∙ is)).1 ∙ rw (drop-drop (j - i) i xs, step) (sym e)
+    go false is = sym (split_zeros i xs ∙ rw is (both_false (all_zero (take i xs))))
 
--- the first n + m numbers are zero where the first n are and the m that follow
-pub take_zeros : (n m i : ℕ) (l : List ℕ)
-    → all_zero (take (n + m) (drop i l)) ≡ all_zero (take n (drop i l)) && all_zero (take m (drop (i + n) l))
-take_zeros n m i l = rw (take-add n m (drop i l), append_zeros, drop-drop n i l)
+-- ---- bytes tested by thirty-two, those that are left by eight, and the last eight again
 
--- what is left at i, by its first number
-drop_next : (l : List ℕ) (i : ℕ) → i < length l → drop i l ≡ get_or l i 0 ∷ drop (i + 1) l
-drop_next l i h = rw (add-one, drop-cons l i 0)
+module _ (xs tail : List ℕ) (blocks : List (List ℕ)) (a : Bool)
+    (first : blocks ≡ first_chunks 32 (length xs / 32) xs) (left : tail ≡ drop (length xs / 32 * 32) xs)
+    (a_tests : a ≡ list_all all_zero blocks) where
+  -- a block is not zero
+  pub blocks_broken : a ≡ false → false ≡ all_zero xs
+  blocks_broken = chunks_broken 32 (length xs / 32) xs a (a_tests ∙ ap (list_all all_zero) first)
 
--- the test of a list from start on has come to i
-module _ (l : List ℕ) (start i : ℕ) (so : all_zero (drop i l) ≡ all_zero (drop start l)) where
-  -- past the end
-  pub zeros_done : length l ≤ i → true ≡ all_zero (drop start l)
-  zeros_done h = rw (drop_of_length-le l) at so
+  module _ (eights : List (List ℕ)) (b : Bool) (all_first : a ≡ true)
+      (second : eights ≡ first_chunks 8 (length tail / 8) tail)
+      (b_tests : b ≡ list_all all_zero eights) where
+    tested : b ≡ list_all all_zero (first_chunks 8 (length tail / 8) tail)
+    tested = b_tests ∙ ap (list_all all_zero) second
 
-  -- at a number that is not zero
-  pub zeros_broken : i < length l → (get_or l i 0 ≡ 0 → ⊥) → false ≡ all_zero (drop start l)
-  zeros_broken h n = rw (drop_next l i, ne_eqb _ _ n) at so
+    as_tail : all_zero tail ≡ all_zero xs
+    as_tail = ap all_zero left ∙ chunks_passed 32 (length xs / 32) xs a (a_tests ∙ ap (list_all all_zero) first) all_first
 
-  -- at a zero
-  pub zeros_next : i < length l → get_or l i 0 ≡ 0 → all_zero (drop (i + 1) l) ≡ all_zero (drop start l)
-  zeros_next h e = rw (drop_next l i, eq-eqb _ _ e) at so
+    -- eight bytes are not
+    pub eights_broken : b ≡ false → false ≡ all_zero xs
+    eights_broken f = chunks_broken 8 (length tail / 8) tail b tested f ∙ as_tail
 
-  several : (n : ℕ) → all_zero (take n (drop i l)) && all_zero (drop (i + n) l) ≡ all_zero (drop start l)
-  several n = rw (split_zeros n (drop i l), drop-drop n i l) at so
-
-  -- at n numbers that are not all zero
-  pub zeros_broken_by : (n : ℕ) (b : Bool) → b ≡ all_zero (take n (drop i l)) → b ≡ false
-      → false ≡ all_zero (drop start l)
-  zeros_broken_by n b e f = rw (sym e ∙ f) at (several n)
-
-  -- at n zeros
-  pub zeros_on_by : (n : ℕ) (b : Bool) → b ≡ all_zero (take n (drop i l)) → b ≡ true
-      → all_zero (drop (i + n) l) ≡ all_zero (drop start l)
-  zeros_on_by n b e t = rw (sym e ∙ t) at (several n)
-
--- one number
-one_zero : (i : ℕ) (l : List ℕ) → all_zero (take 1 (drop i l)) ≡ eqb (get_or l i 0) 0
-one_zero zero [] = refl
-one_zero (suc i) [] = refl
-one_zero zero (x ∷ l) = cases (eqb x 0)
-  where
-    cases : (t : Bool) → t && true ≡ t
-    cases true = refl
-    cases false = refl
-one_zero (suc i) (x ∷ l) = one_zero i l
-
--- a sum is zero where both its parts are
-sum_zero : (x y : ℕ) → eqb x 0 && eqb y 0 ≡ eqb (x + y) 0
-sum_zero zero zero = refl
-sum_zero (suc x) y = rw (ne_eqb (suc x) 0 (λ e. omega arith), ne_eqb (suc x + y) 0 (λ e. omega arith))
-sum_zero zero (suc y) = rw (ne_eqb (suc y) 0 (λ e. omega arith), ne_eqb (0 + suc y) 0 (λ e. omega arith))
-
--- two numbers are zero together
-zero_together : (r s : ℕ) → (r ≡ 0 → s ≡ 0) → (s ≡ 0 → r ≡ 0) → eqb r 0 ≡ eqb s 0
-zero_together r zero there back = eq-eqb r 0 (back refl)
-zero_together r (suc s) there back =
-    ne_eqb r 0 (λ e. let z : suc s ≡ 0 = there e in omega arith) ∙ sym (ne_eqb (suc s) 0 (λ e. omega arith))
-
--- some numbers in a row are zero where their sum is
-module _ (l : List ℕ) where
-  row_sum : (n m i j x y : ℕ) → i + n ≡ j
-      → all_zero (take n (drop i l)) ≡ eqb x 0 → all_zero (take m (drop j l)) ≡ eqb y 0
-      → all_zero (take (n + m) (drop i l)) ≡ eqb (x + y) 0
-  row_sum n m i j x y p e f = take_zeros n m i l ∙ rw (p, e, f) (sum_zero x y)
-
-  two_zero : (i j : ℕ) → i + 1 ≡ j → all_zero (take 2 (drop i l)) ≡ eqb (get_or l i 0 + get_or l j 0) 0
-  two_zero i j e = row_sum 1 1 i j (get_or l i 0) (get_or l j 0) e (one_zero i l) (one_zero j l)
-
-  four_sum : (i j k m : ℕ) → i + 1 ≡ j → i + 2 ≡ k → i + 3 ≡ m
-      → all_zero (take 4 (drop i l)) ≡ eqb (get_or l i 0 + get_or l j 0 + (get_or l k 0 + get_or l m 0)) 0
-  four_sum i j k m p q r =
-      row_sum 2 2 i k (get_or l i 0 + get_or l j 0) (get_or l k 0 + get_or l m 0) q (two_zero i j p)
-      (two_zero k m (omega arith))
-
--- four words read as one number
-pub four_words_zero : (l : List ℕ) (i r : ℕ)
-    → r ≡ get_or l i 0 + 65536 * get_or l (i + 1) 0 + 4294967296 * get_or l (i + 2) 0 + 281474976710656 * get_or l (i + 3) 0
-    → eqb r 0 ≡ all_zero (take 4 (drop i l))
-four_words_zero l i r e =
-    let sum = get_or l i 0 + get_or l (i + 1) 0 + (get_or l (i + 2) 0 + get_or l (i + 3) 0) in
-    zero_together r sum (λ z. omega arith) (λ z. omega arith)
-    ∙ sym (four_sum l i (i + 1) (i + 2) (i + 3) refl refl refl)
-
--- bytes packed into one number
-pub packed_zero : {r : ℕ} {l : List ℕ} → Packed r l → eqb r 0 ≡ all_zero l
-packed_zero packs_none = refl
-packed_zero (packs a r small rest) =
-    sym (sum_zero a (256 * r))
-    ∙ rw (zero_together (256 * r) r (λ z. omega arith) (λ z. omega arith), packed_zero rest)
-
--- two rows of n numbers, tested one after the other
-pub rows_zero : (l : List ℕ) (i n m : ℕ) (a b : Bool) → a ≡ all_zero (take n (drop i l))
-    → b ≡ all_zero (take n (drop (i + n) l)) → n + n ≡ m → a && b ≡ all_zero (take m (drop i l))
-rows_zero l i n m a b e f both = rw (e, f, sym both) (sym (take_zeros n n i l))
+    -- the last eight decide
+    pub last_decides : (last : List ℕ) (c : Bool) → b ≡ true → last ≡ drop (length xs - 8) xs → c ≡ all_zero last → c ≡ all_zero xs
+    last_decides last c all_second e c_tests =
+        let from = length xs / 32 * 32 in
+        let k = length tail / 8 * 8 in
+        let size : length tail ≡ length xs - from = ap length left ∙ length-drop from xs in
+        let late : length xs - 8 ≤ from + k = omega arith in
+        let rest : all_zero (drop (from + k) xs) ≡ all_zero (drop k tail) = ap all_zero (sym (drop-drop k from xs)) ∙ ap (λ l. all_zero (drop k l)) (sym left) in
+        c_tests
+        ∙ ap all_zero e
+        ∙ last_settles xs (length xs - 8) (from + k) late (sym (rest ∙ chunks_passed 8 (length tail / 8) tail b tested all_second ∙ as_tail))

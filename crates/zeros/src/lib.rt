@@ -1,101 +1,47 @@
-// Whether bytes or words are all zero. Eight bytes are read as one number, which is 0 where each of them is.
+// Whether bytes or words are all zero. The bits of several are gathered into one number, which is tested at once.
 #![tactic(auto)]
 
-ghost use Rattle.std.specs.Prelude.{◌≡◌, ◌+◌, ◌*◌, ◌≤◌, length, take, drop};
+ghost use Rattle.std.specs.Prelude.{◌≡◌};
+ghost use Rattle.std.specs.List.{list_all};
 ghost use Rattle.tables.specs.Sound.{all_zero};
-ghost use Rattle.zeros.specs.Fours.{InFours};
 
-// Four words as one number.
-fn four_words(a: u16, b: u16, c: u16, d: u16) -> u64
-    ensures { result ≡ a + 65536 * b + 4294967296 * c + 281474976710656 * d }
+// Whether the bytes of a block are zero.
+fn block_zero<const N: usize>(block: &[u8; N]) -> bool
+    ensures { result ≡ all_zero block.now }
 {
-    a as u64 + 65536 * b as u64 + 4294967296 * c as u64 + 281474976710656 * d as u64
+    block.iter().fold(0, |bits, &b| bits | b) == 0
 }
 
-// Whether the eight bytes from i on are zero.
-fn eight_zero(bytes: &[u8], i: usize) -> bool
-    requires { i + 8 ≤ length bytes.now }
-    ensures { result ≡ all_zero (take 8 (drop i bytes.now)) }
+// Whether all blocks are.
+fn blocks_zero<const N: usize>(blocks: &[[u8; N]]) -> bool
+    ensures { result ≡ list_all all_zero blocks.now }
 {
-    eights::eight_at(bytes, i) == 0
+    blocks.iter().all(block_zero)
 }
 
-// Whether the sixteen bytes from i on are zero.
-fn sixteen_zero(bytes: &[u8], i: usize) -> bool
-    requires { i + 16 ≤ length bytes.now }
-    ensures { result ≡ all_zero (take 16 (drop i bytes.now)) }
+// Whether the words of a row are zero.
+fn row_zero(row: &[u16; 8]) -> bool
+    ensures { result ≡ all_zero row.now }
 {
-    eight_zero(bytes, i) & eight_zero(bytes, i + 8)
+    row.iter().fold(0, |bits, &word| bits | word) == 0
 }
 
-// Whether the thirty-two bytes from i on are zero.
-fn thirty_two_zero(bytes: &[u8], i: usize) -> bool
-    requires { i + 32 ≤ length bytes.now }
-    ensures { result ≡ all_zero (take 32 (drop i bytes.now)) }
+// Whether all bytes are zero: by thirty-two, by eight, and at last the last eight, of which some have been tested then.
+pub fn bytes_zero(bytes: &[u8]) -> bool
+    ensures { result ≡ all_zero bytes.now }
 {
-    sixteen_zero(bytes, i) & sixteen_zero(bytes, i + 16)
+    let Some(last) = bytes.last_chunk::<8>() else {
+        return bytes.iter().all(|&b| b == 0);
+    };
+    let (blocks, tail) = bytes.as_chunks::<32>();
+    let (eights, _) = tail.as_chunks::<8>();
+    blocks_zero(blocks) && blocks_zero(eights) && block_zero(last)
 }
 
-// Whether the four words from i on are zero.
-fn four_zero(words: &[u16], i: usize) -> bool
-    requires { i + 4 ≤ length words.now }
-    ensures { result ≡ all_zero (take 4 (drop i words.now)) }
+// Whether all words are zero: by eight, and the last ones one by one.
+pub fn words_zero(words: &[u16]) -> bool
+    ensures { result ≡ all_zero words.now }
 {
-    four_words(words[i], words[i + 1], words[i + 2], words[i + 3]) == 0
-}
-
-// Whether the bytes from start on are zero, one after the other.
-fn last_bytes_zero(bytes: &[u8], start: usize) -> bool
-    requires { start ≤ length bytes.now }
-    ensures { result ≡ all_zero (drop start bytes.now) }
-{
-    let mut i = start;
-    while i < bytes.len() {
-        if bytes[i] != 0 {
-            return false;
-        }
-        i += 1;
-    }
-    true
-}
-
-// Whether all bytes from start on are zero: by thirty-two, by eight, and at last the last eight, of which some may have
-// been tested before.
-pub fn bytes_zero(bytes: &[u8], start: usize) -> bool
-    requires { start ≤ length bytes.now }
-    ensures { result ≡ all_zero (drop start bytes.now) }
-{
-    if bytes.len() - start < 8 {
-        return last_bytes_zero(bytes, start);
-    }
-    let last = bytes.len() - 8;
-    let mut i = start;
-    while i + 24 <= last {
-        if !thirty_two_zero(bytes, i) {
-            return false;
-        }
-        i += 32;
-    }
-    while i < last {
-        if !eight_zero(bytes, i) {
-            return false;
-        }
-        i += 8;
-    }
-    eight_zero(bytes, last)
-}
-
-// Whether all words from start on are zero, where their number is a multiple of four.
-pub fn words_zero(words: &[u16], start: usize) -> bool
-    requires { InFours start (length words.now) }
-    ensures { result ≡ all_zero (drop start words.now) }
-{
-    let mut i = start;
-    while i < words.len() {
-        if !four_zero(words, i) {
-            return false;
-        }
-        i += 4;
-    }
-    true
+    let (rows, last) = words.as_chunks::<8>();
+    rows.iter().all(row_zero) && last.iter().all(|&word| word == 0)
 }
