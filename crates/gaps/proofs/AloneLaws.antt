@@ -1,6 +1,5 @@
 -- A label whose side names no neighbour.
--- `alone_some`, `alone_elsewhere`, `alone_root`: the function's own tests.
--- `side_alone`: they say how its place and side are by its gaps.
+-- `side_alone`: its tests say how its place and side are by its gaps.
 -- `no_place`, `no_side`: these are by no gaps where the place is 0, or the side beyond 1.
 use Prim.Native.Nat.{ℕ, ◌≤◌, ◌<◌}
 use mathlib.Core.Path.{◌≡◌, refl, sym, ◌∙◌}
@@ -8,28 +7,16 @@ use mathlib.Core.List.{List}
 use mathlib.Core.Bool.{Bool, true, false, ◌&&◌, not}
 use native.Mathlib.Omega.{arith}
 use lib.Dec.{eqb}
-use borrow.Author.Tests.{eq-eqb, ne_eqb}
+use Rattle.std.specs.Prelude.{Option, None}
 use Rattle.types.specs.declared.Limits.{Limits}
 use Rattle.labels.specs.Labels.{Label}
 use Rattle.labels.proofs.Numbers.{Eqb, eq_yes, eq_no, eqb_view}
 use Rattle.gaps.specs.Windows.{toward}
 use Rattle.gaps.specs.Gapped.{Gap, parted, gap_of, gap_in, gaps_in, both_when, fields_fine, alone}
 use Rattle.gaps.specs.declared.Gaps.{Gaps}
-use Rattle.gaps.specs.declared.Gaps.TheVariants.{Broken, Both}
 use Rattle.gaps.proofs.GapLaws.{gap_positive}
 use Rattle.gaps.proofs.FieldLaws.{Named, names_below, names_above, named_by, side_below, side_above, side_known}
 use Rattle.gaps.proofs.FieldLaws.{broken, right, parted_once}
-
--- no neighbour below
-module _ (at : ℕ) (upward : Bool) (above : ℕ) (down : upward ≡ false) where
-  pub alone_some : (above ≡ 0 → ⊥) → Broken ≡ alone at upward above
-  alone_some some = rw (down, ne_eqb above 0 some)
-
-  pub alone_elsewhere : above ≡ 0 → (at ≡ 1 → ⊥) → Broken ≡ alone at upward above
-  alone_elsewhere none other = rw (down, eq-eqb above 0 none, ne_eqb at 1 other)
-
-  pub alone_root : above ≡ 0 → at ≡ 1 → Both 0 0 ≡ alone at upward above
-  alone_root none first = rw (down, eq-eqb above 0 none, eq-eqb at 1 first)
 
 -- the gap with no neighbour
 no_neighbour : (limits : Limits) (table store : List ℕ) (upward : Bool) (x : Label)
@@ -47,14 +34,14 @@ module _ (limits : Limits) (table store : List ℕ) (below above : ℕ) (x : Lab
   high = gap_in limits table store true above x
 
   -- what is to be found
-  abbrev fields : (side : ℕ) → Gaps
+  abbrev fields : (side : ℕ) → Option Gaps
   fields side = fields_fine at side (gaps_in limits table store below x above)
 
   -- a place of 0, and a side beyond 1
-  pub no_place : (side : ℕ) → at ≡ 0 → Broken ≡ fields side
+  pub no_place : (side : ℕ) → at ≡ 0 → None ≡ fields side
   no_place side none = broken at side low high (λ p q e f g h. omega (arith, none, g))
 
-  pub no_side : (side : ℕ) → 1 < side → Broken ≡ fields side
+  pub no_side : (side : ℕ) → 1 < side → None ≡ fields side
   no_side side beyond = broken at side low high (λ p q e f g h. side_known p q side beyond h)
 
   -- a missing neighbour's gap is at place 0
@@ -63,12 +50,12 @@ module _ (limits : Limits) (table store : List ℕ) (below above : ℕ) (x : Lab
       parted_once q 0 (gap_in limits table store upward k x) e (rw none (no_neighbour limits table store upward x))
 
   -- none above, though the side names it
-  alone_above : above ≡ 0 → Broken ≡ fields 1
+  alone_above : above ≡ 0 → None ≡ fields 1
   alone_above none =
       broken at 1 low high (λ p q e f g h. omega (arith, none_parted true above q none f, side_above p q h))
 
   -- none below, though the side names it, and one above
-  alone_below : below ≡ 0 → 1 ≤ above → Broken ≡ fields 0
+  alone_below : below ≡ 0 → 1 ≤ above → None ≡ fields 0
   alone_below none some =
       broken at 0 low high (λ p q e f g h. omega (
         arith,
@@ -94,7 +81,7 @@ module _ (limits : Limits) (table store : List ℕ) (below above : ℕ) (x : Lab
           )))
 
   -- the side names no neighbour
-  pub side_alone : (side : ℕ) (upward : Bool) → side ≤ 1 → upward ≡ eqb side 1 → (near : ℕ) (r : Gaps)
+  pub side_alone : (side : ℕ) (upward : Bool) → side ≤ 1 → upward ≡ eqb side 1 → (near : ℕ) (r : Option Gaps)
       → near ≡ toward upward below above → near ≡ 0 → r ≡ alone at upward above → r ≡ fields side
   side_alone side upward known named near r e none is =
       is ∙ go (named_by side upward known named) (eqb_view above 0) (sym e ∙ none)

@@ -9,10 +9,10 @@ use mathlib.Core.Bool.{Bool, true, false, ◌&&◌, cond, true≢false}
 use native.Mathlib.Omega.{arith}
 use lib.Dec.{eqb}
 use borrow.Author.Tests.{eq-eqb, eqb-true}
+use Rattle.std.specs.Prelude.{None}
 use Rattle.labels.proofs.Numbers.{Leb, le_yes, le_no, leb_view, Eqb, eq_yes, eq_no, eqb_view}
 use Rattle.tables.specs.Prefix.{place_by, side_by}
-use Rattle.gaps.specs.Gapped.{Gap, wrong, parted, parts_at, gaps_of, both_when, fields_fit, fields_fine}
-use Rattle.gaps.specs.declared.Gaps.TheVariants.{Broken, Both}
+use Rattle.gaps.specs.Gapped.{Gap, wrong, parted, parts_at, gaps_of, both_when, fields_fit, fields_fine, both}
 
 -- the neighbour that a side names: the one below, or upward the one above
 pub data Named : (side : ℕ) → (upward : Bool) → Type 0 where
@@ -51,16 +51,16 @@ side_known p q side beyond = go (leb_view q p)
 
 module _ (at side : ℕ) where
   -- both are by the difference places
-  fine : (p q : ℕ) → at ≡ place_by p q → side ≡ side_by p q → Both p q ≡ fields_fine at side (Both p q)
+  fine : (p q : ℕ) → at ≡ place_by p q → side ≡ side_by p q → both p q ≡ fields_fine at side (both p q)
   unfolding fields_fine fields_fit
   fine p q e f = rw (eq-eqb at (place_by p q) e, eq-eqb side (side_by p q) f)
 
   -- they are not
-  not_fine : (p q : ℕ) → (at ≡ place_by p q → side ≡ side_by p q → ⊥) → Broken ≡ fields_fine at side (Both p q)
+  not_fine : (p q : ℕ) → (at ≡ place_by p q → side ≡ side_by p q → ⊥) → None ≡ fields_fine at side (both p q)
   unfolding fields_fine fields_fit
   not_fine p q n = go (eqb_view at (place_by p q)) (eqb_view side (side_by p q))
     where
-      go : {a b : Bool} → Eqb at (place_by p q) a → Eqb side (side_by p q) b → Broken ≡ both_when (a && b) p q
+      go : {a b : Bool} → Eqb at (place_by p q) a → Eqb side (side_by p q) b → None ≡ both_when (a && b) p q
       go (eq_yes e) (eq_yes f) = absurd (n e f)
       go (eq_yes e) (eq_no f) = refl
       go (eq_no e) b = refl
@@ -68,7 +68,7 @@ module _ (at side : ℕ) where
   -- of two gaps: they are not, whatever these are
   pub broken : (low high : Gap)
       → ((p q : ℕ) → parted p ≡ low → parted q ≡ high → at ≡ place_by p q → side ≡ side_by p q → ⊥)
-      → Broken ≡ fields_fine at side (gaps_of low high)
+      → None ≡ fields_fine at side (gaps_of low high)
   unfolding fields_fine
   broken wrong high n = refl
   broken (parted p) wrong n = refl
@@ -76,7 +76,7 @@ module _ (at side : ℕ) where
 
   -- they are by these
   pub right : (p q : ℕ) (low high : Gap) → parted p ≡ low → parted q ≡ high → at ≡ place_by p q → side ≡ side_by p q
-      → Both p q ≡ fields_fine at side (gaps_of low high)
+      → both p q ≡ fields_fine at side (gaps_of low high)
   right p q low high e f g h = rw (← e, ← f) (fine p q g h)
 
 -- a gap that parts at a place is that place

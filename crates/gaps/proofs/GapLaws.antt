@@ -18,8 +18,8 @@ use Rattle.labels.proofs.Results.{mirrored, compare_mirrored}
 use Rattle.labels.proofs.Clashes.{clash}
 use Rattle.trees.specs.Valid.{is_smaller}
 use Rattle.tables.specs.Words.{row_at, entry_at}
-use Rattle.orders.specs.declared.Order.{Order}
-use Rattle.orders.specs.declared.Order.TheVariants.{Smaller, Same, Larger}
+use Rattle.std.specs.declared.cmp.Ordering.{Ordering}
+use Rattle.std.specs.declared.cmp.Ordering.TheVariants.{Less, Equal, Greater}
 use Rattle.compares.specs.Compares.{order_at}
 use Rattle.words.specs.Rows.{HasRow}
 use Rattle.words.specs.Parts.{LabelInside}
@@ -94,16 +94,17 @@ parts_by : (upward : Bool) (k : Comparison) (i : ℕ) → is_toward upward (orde
 parts_by upward (smaller j) i = go upward (eqb i j) refl
   where
     go : (upward found : Bool) → found ≡ eqb i j
-        → is_toward upward (cond found Smaller Same) ≡ parts_at i (cond (not upward) (parted j) wrong)
+        → is_toward upward (cond found Less Equal) ≡ parts_at i (cond (not upward) (parted j) wrong)
     go false true e = e
     go false false e = e
     go true true e = refl
     go true false e = refl
-parts_by upward (same j) i = refl
+parts_by false (same j) i = refl
+parts_by true (same j) i = refl
 parts_by upward (larger j) i = go upward (eqb i j) refl
   where
     go : (upward found : Bool) → found ≡ eqb i j
-        → is_toward upward (cond found Larger Same) ≡ parts_at i (cond upward (parted j) wrong)
+        → is_toward upward (cond found Greater Equal) ≡ parts_at i (cond upward (parted j) wrong)
     go false true e = refl
     go false false e = refl
     go true true e = e
@@ -124,7 +125,7 @@ module _ (limits : Limits) (table store : List ℕ) (upward : Bool) (k : ℕ) (x
       let at = gap_ends upward (compare_labels y x) i (e ∙ sym (gap_by_lem y refl)) in
       omega (arith, at, (ends_of_labels y x).from)
 
-  module _ (y : Label) (read : y ≡ (entry_at limits table store k).label) (i : ℕ) (r : Bool) (o : Order)
+  module _ (y : Label) (read : y ≡ (entry_at limits table store k).label) (i : ℕ) (r : Bool) (o : Ordering)
       (test : r ≡ is_toward upward o) where
     -- whether they part at a place, by their order there
     pub parts_whole : o ≡ order_at i (compare_labels y x) → r ≡ parts_at i (gap_in limits table store upward k x)

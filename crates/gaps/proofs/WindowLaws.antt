@@ -1,5 +1,4 @@
 -- The place and side of a label in a window, by the neighbour that the side names.
--- `near_beside`, `above_beside`: the neighbours may be read.
 -- `not_there`: the label does not part from it at the place.
 -- `with_upper`, `with_lower`: it does, and it is the one above, or below.
 -- `may_tie`: where it is the one below, the one above may be compared where the window parts.
@@ -10,15 +9,15 @@ use mathlib.Core.Bool.{Bool, true, false, ◌&&◌, ◌||◌}
 use native.Mathlib.Omega.{arith}
 use lib.Dec.{eqb}
 use borrow.Author.Tests.{lt-leb, le-leb, eqb-true, eqb-false}
+use Rattle.std.specs.Prelude.{Option, None}
 use Rattle.types.specs.declared.Limits.{Limits}
 use Rattle.labels.specs.Labels.{Label}
 use Rattle.labels.specs.Neighbours.{Neighbour, none_below, held, none_above, difference}
 use Rattle.labels.proofs.Order.{Below}
 use Rattle.labels.proofs.Numbers.{Ltb, lt_yes, lt_no, ltb_view, Eqb, eq_yes, eq_no, eqb_view}
-use Rattle.gaps.specs.Windows.{toward, below_in, above_in, Beside, MayStart, MayTie, Between}
-use Rattle.gaps.specs.Gapped.{Gap, parted, parts_at, gap_in, gaps_in, both_when, fields_fine, by_upper, by_lower}
+use Rattle.gaps.specs.Windows.{toward, below_in, above_in, MayStart, MayTie, Between}
+use Rattle.gaps.specs.Gapped.{Gap, parted, parts_at, gap_in, gaps_in, both_when, fields_fine, by_upper, by_lower, both}
 use Rattle.gaps.specs.declared.Gaps.{Gaps}
-use Rattle.gaps.specs.declared.Gaps.TheVariants.{Broken, Both}
 use Rattle.gaps.proofs.OrderTests.{before_of_test}
 use Rattle.gaps.proofs.GapLaws.{gap_positive}
 use Rattle.gaps.proofs.SideLaws.{gap_ascends, late_right, open_starts, outer_place}
@@ -42,14 +41,6 @@ module _ (limits : Limits) (table store : List ℕ) (below above : ℕ) where
   larger = above_in limits table store above
 
   module _ (apart : ℕ) (fits : Between limits table store below above apart) where
-    -- each may be read
-    pub near_beside : (near : ℕ) (upward : Bool) → near ≡ toward upward below above → Beside limits table store near
-    near_beside near false e = rw e (record { sizes = fits.sizes; window = fits.lower })
-    near_beside near true e = rw e (record { sizes = fits.sizes; window = fits.upper })
-
-    pub above_beside : Beside limits table store above
-    above_beside = record { sizes = fits.sizes; window = fits.upper }
-
     -- they ascend, and part at the window's place
     window : Below smaller larger apart
     window = rw fits.parts (before_of_test smaller larger fits.order)
@@ -63,12 +54,12 @@ module _ (limits : Limits) (table store : List ℕ) (below above : ℕ) where
     high = gap_in limits table store true above x
 
     -- what is to be found
-    abbrev fields : (side : ℕ) → Gaps
+    abbrev fields : (side : ℕ) → Option Gaps
     fields side = fields_fine at side (gaps_in limits table store below x above)
 
     -- ---- the label does not part from the named neighbour at the place, or lies wrongly
 
-    not_upper : (t : Bool) → 1 ≤ above → t ≡ parts_at at high → t ≡ false → Broken ≡ fields 1
+    not_upper : (t : Bool) → 1 ≤ above → t ≡ parts_at at high → t ≡ false → None ≡ fields 1
     not_upper t some test is =
         broken at 1 low high (λ p q e f g h. parts_elsewhere at q high t test is f (omega (
           arith,
@@ -77,7 +68,7 @@ module _ (limits : Limits) (table store : List ℕ) (below above : ℕ) where
           gap_positive limits table store true above x some q f,
         )))
 
-    not_lower : (t : Bool) → 1 ≤ below → t ≡ parts_at at low → t ≡ false → Broken ≡ fields 0
+    not_lower : (t : Bool) → 1 ≤ below → t ≡ parts_at at low → t ≡ false → None ≡ fields 0
     not_lower t some test is =
         broken at 0 low high (λ p q e f g h. parts_elsewhere at p low t test is e (omega (
           arith,
@@ -88,12 +79,12 @@ module _ (limits : Limits) (table store : List ℕ) (below above : ℕ) where
 
     pub not_there : (side : ℕ) (upward : Bool) → side ≤ 1 → upward ≡ eqb side 1 → (near : ℕ) (t : Bool)
         → near ≡ toward upward below above → (near ≡ 0 → ⊥)
-        → t ≡ parts_at at (gap_in limits table store upward near x) → t ≡ false → Broken ≡ fields side
+        → t ≡ parts_at at (gap_in limits table store upward near x) → t ≡ false → None ≡ fields side
     not_there side upward known named near t e some test is =
         go (named_by side upward known named) (λ none. some (e ∙ none)) (rw e at test)
       where
         go : {side : ℕ} {u : Bool} → Named side u → (toward u below above ≡ 0 → ⊥)
-            → t ≡ parts_at at (gap_in limits table store u (toward u below above) x) → Broken ≡ fields side
+            → t ≡ parts_at at (gap_in limits table store u (toward u below above) x) → None ≡ fields side
         go names_above some test = not_upper t (omega arith) test is
         go names_below some test = not_lower t (omega arith) test is
 
@@ -119,7 +110,7 @@ module _ (limits : Limits) (table store : List ℕ) (below above : ℕ) where
       by_lower_lem : (at ≡ 0 → ⊥) → parted at ≡ low → by_lower at apart high ≡ fields 0
       by_lower_lem some near = go (ltb_view apart at) (eqb_view at apart) (parts_at apart high) refl
         where
-          fine : apart ≤ at → parted apart ≡ high → Both at apart ≡ fields 0
+          fine : apart ≤ at → parted apart ≡ high → both at apart ≡ fields 0
           fine most far = right at 0 at apart low high near far (omega arith) (rw (le-leb apart at most))
 
           go : {late tie : Bool} → Ltb apart at late → Eqb at apart tie → (there : Bool) → parts_at apart high ≡ there
@@ -144,7 +135,7 @@ module _ (limits : Limits) (table store : List ℕ) (below above : ℕ) where
       -- from the tests that led there
       module _ (upward : Bool) (near : ℕ) (t : Bool) (e : near ≡ toward upward below above)
           (test : t ≡ parts_at at (gap_in limits table store upward near x)) (is : t ≡ true) where
-        pub with_upper : (side : ℕ) (r : Gaps) → side ≤ 1 → upward ≡ eqb side 1 → upward ≡ true → r ≡ by_upper at apart
+        pub with_upper : (side : ℕ) (r : Option Gaps) → side ≤ 1 → upward ≡ eqb side 1 → upward ≡ true → r ≡ by_upper at apart
             → r ≡ fields side
         with_upper side r known named up found =
             let one = eqb-true side 1 (sym named ∙ up) in
@@ -153,7 +144,7 @@ module _ (limits : Limits) (table store : List ℕ) (below above : ℕ) where
         near_low : upward ≡ false → parted at ≡ low
         near_low down = parts_there at low t (rw (e, down) at test) is
 
-        pub with_lower : (side : ℕ) (r : Gaps) → side ≤ 1 → upward ≡ eqb side 1 → upward ≡ false → (at ≡ 0 → ⊥)
+        pub with_lower : (side : ℕ) (r : Option Gaps) → side ≤ 1 → upward ≡ eqb side 1 → upward ≡ false → (at ≡ 0 → ⊥)
             → r ≡ by_lower at apart high → r ≡ fields side
         with_lower side r known named down some found =
             let other = eqb-false side 1 (sym named ∙ down) in

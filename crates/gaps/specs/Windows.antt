@@ -1,13 +1,13 @@
 -- The window of a node: the slots of its nearest smaller and larger node above, 0 where there is none.
 -- What the tests in a window take for granted: each caller has tested it before.
-use Rattle.std.specs.Prelude.{List, ◌≡◌, Bool, true, false, not, cond, ℕ, zero, suc, ◌≤◌, max, length}
+use Rattle.std.specs.Prelude.{List, ◌≡◌, Bool, true, false, cond, ℕ, zero, suc, ◌≤◌, max, length}
+use Rattle.std.specs.Ordering.{is_gt, is_lt}
+use Rattle.std.specs.declared.cmp.Ordering.{Ordering}
 use Rattle.types.specs.declared.Limits.{Limits}
 use Rattle.types.specs.Sizes.{store_length}
 use Rattle.labels.specs.Labels.{Label, compare_labels}
 use Rattle.labels.specs.Neighbours.{Neighbour, none_below, held, none_above, difference}
 use Rattle.trees.specs.Valid.{is_smaller}
-use Rattle.orders.specs.declared.Order.{Order}
-use Rattle.orders.specs.declared.Order.TheVariants.{Smaller, Same, Larger}
 use Rattle.tables.specs.Words.{row_at, entry_at}
 use Rattle.words.specs.Limits.{SizesFit}
 
@@ -35,10 +35,8 @@ abbrev pub toward : (upward : Bool) → (below above : ℕ) → ℕ
 toward upward below above = cond upward above below
 
 -- whether a neighbour's order is that of one below, or upward that of one above
-abbrev pub is_toward : (upward : Bool) → Order → Bool
-is_toward upward Smaller = not upward
-is_toward upward Same = false
-is_toward upward Larger = upward
+abbrev pub is_toward : (upward : Bool) → Ordering → Bool
+is_toward upward order = cond upward (is_gt order) (is_lt order)
 
 -- the neighbour of a label in a slot, below it or upward of it
 abbrev pub neighbour_in : Limits → (table store : List ℕ) → (upward : Bool) → ℕ → Neighbour

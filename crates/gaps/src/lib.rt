@@ -5,14 +5,14 @@ ghost use Rattle.std.specs.Prelude.{◌≡◌, true, ◌≤◌};
 ghost use Rattle.gaps.specs.Windows.{toward, is_toward, Beside, MayTie, Between};
 ghost use Rattle.gaps.specs.Gapped.{gap_in, parts_at, gaps_in, fields_fine, alone, by_upper, by_lower};
 
-use orders::Order;
+use std::cmp::Ordering;
 use types::Limits;
 
-// How a label lies between its neighbours: not as it should, or its difference places with both.
-#[derive(Clone, Copy)]
-pub enum Gaps {
-    Broken,
-    Both { lower: usize, upper: usize },
+// The difference places of a label with its neighbours below and above, between which it lies as it should.
+#[derive(Clone, Copy, Debug, PartialEq, Eq)]
+pub struct Gaps {
+    pub lower: usize,
+    pub upper: usize,
 }
 
 // Of two numbers the one for a side: that below, or upward that above.
@@ -23,14 +23,10 @@ fn toward(upward: bool, below: usize, above: usize) -> usize
 }
 
 // Whether a neighbour's order is that of one below, or upward that of one above.
-fn is_toward(upward: bool, order: Order) -> bool
+fn is_toward(upward: bool, order: Ordering) -> bool
     ensures { result ≡ is_toward upward order }
 {
-    match order {
-        Order::Smaller => !upward,
-        Order::Same => false,
-        Order::Larger => upward,
-    }
+    if upward { order.is_gt() } else { order.is_lt() }
 }
 
 // Whether a label and its neighbour in a slot, below it or upward of it, ascend and part at this place.
@@ -55,32 +51,20 @@ fn parts_at(
 }
 
 // The difference places of a label with no neighbour on the side that is named: the root's, alone in its window.
-fn alone(place: usize, upward: bool, above: usize) -> Gaps
+fn alone(place: usize, upward: bool, above: usize) -> Option<Gaps>
     ensures { result ≡ alone place upward above }
 {
-    if upward {
-        return Gaps::Broken;
-    }
-    if above != 0 {
-        return Gaps::Broken;
-    }
-    if place != 1 {
-        return Gaps::Broken;
-    }
-    Gaps::Both { lower: 0, upper: 0 }
+    (!upward && above == 0 && place == 1).then_some(Gaps { lower: 0, upper: 0 })
 }
 
 // Both difference places, by the one with the neighbour above, in a window that parts at a place.
-fn by_upper(upper: usize, apart: usize) -> Gaps
+fn by_upper(upper: usize, apart: usize) -> Option<Gaps>
     ensures { result ≡ by_upper upper apart }
 {
-    if upper <= apart {
-        return Gaps::Broken;
-    }
-    Gaps::Both {
+    (apart < upper).then_some(Gaps {
         lower: apart,
         upper,
-    }
+    })
 }
 
 // The same, by the one with the neighbour below. The neighbour above is read only where both are the window's, and at
@@ -93,31 +77,26 @@ fn by_lower(
     lower: usize,
     above: usize,
     apart: usize,
-) -> Gaps
+) -> Option<Gaps>
     requires beside { Beside limits table.now store.now above }
     requires may_tie { MayTie limits table.now store.now above label.now lower apart }
     ensures { result
         ≡ by_lower lower apart
         (gap_in limits table.now store.now true above label.now) }
 {
-    if apart < lower {
-        return Gaps::Both {
-            lower,
-            upper: apart,
-        };
-    }
     if lower < apart {
-        return Gaps::Broken;
+        return None;
     }
-    let other = words::parts::held_label(limits, table, store, above);
-    let order = compares::at_place(other, label, apart);
-    if !is_toward(true, order) {
-        return Gaps::Broken;
+    if lower == apart {
+        let other = words::parts::held_label(limits, table, store, above);
+        if !compares::at_place(other, label, apart).is_gt() {
+            return None;
+        }
     }
-    Gaps::Both {
+    Some(Gaps {
         lower,
         upper: apart,
-    }
+    })
 }
 
 // Both difference places of a label whose place and side are by them. With the neighbour that the side names it is to
@@ -132,17 +111,14 @@ pub fn gaps_in(
     below: usize,
     above: usize,
     apart: usize,
-) -> Gaps
+) -> Option<Gaps>
     requires { Between limits table.now store.now below above apart }
     ensures { result
         ≡ fields_fine place side
         (gaps_in limits table.now store.now below label.now above) }
 {
-    if place == 0 {
-        return Gaps::Broken;
-    }
-    if 1 < side {
-        return Gaps::Broken;
+    if place == 0 || 1 < side {
+        return None;
     }
     let upward = side == 1;
     let near = toward(upward, below, above);
@@ -150,10 +126,11 @@ pub fn gaps_in(
         return alone(place, upward, above);
     }
     if !parts_at(limits, table, store, label, upward, near, place) {
-        return Gaps::Broken;
+        return None;
     }
     if upward {
-        return by_upper(place, apart);
+        by_upper(place, apart)
+    } else {
+        by_lower(limits, table, store, label, place, above, apart)
     }
-    by_lower(limits, table, store, label, place, above, apart)
 }

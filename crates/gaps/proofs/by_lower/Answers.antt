@@ -1,9 +1,9 @@
-use borrow.Author.Tests.{not-true, not-false}
+use Rattle.std.proofs.Common.{◌≡◌, arith}
 use Rattle.gaps.proofs.TieLaws.{tie_broken, tie_both}
 use Rattle.gaps.proofs.by_lower.Goals as goal
 
-pub returns-then-not-is_toward : goal.returns-then-not-is_toward
-returns-then-not-is_toward c = search (tie_broken, not-true)
+pub returns-then-not-is_gt : goal.returns-then-not-is_gt
+returns-then-not-is_gt c = let tie : c.args.lower ≡ c.args.apart = omega arith in search tie_broken
 
-pub returns : goal.returns
-returns c = search (tie_both, not-false)
+pub returns-else-not-is_gt : goal.returns-else-not-is_gt
+returns-else-not-is_gt c = let tie : c.args.lower ≡ c.args.apart = omega arith in search tie_both
