@@ -1,6 +1,6 @@
 -- A node between its neighbours, from what the parts of its test find.
 -- `node_unused`, `node_used`, `node_placed`: its words and bytes are wrong, or its gaps decide.
-use Rattle.std.proofs.Common.{◌≡◌, ℕ, Bool, true, false, cond, ◌&&◌, List, sym, refl, ◌∙◌}
+use Rattle.std.proofs.Common.{◌≡◌, ℕ, Bool, true, false, cond, ◌&&◌, List, sym, refl, ◌∙◌, Option, None}
 use Rattle.types.specs.declared.Limits.{Limits}
 use Rattle.types.specs.declared.Row.{Row}
 use Rattle.labels.specs.Labels.{Label}
@@ -11,7 +11,6 @@ use Rattle.gaps.specs.Windows.{is_before, below_in, above_in}
 use Rattle.gaps.proofs.PartLaws.{label_inside}
 use Rattle.gaps.specs.Gapped.{wrong, parted, gap_of, gaps_of, gaps_in, both_when, fields_fit, fields_fine}
 use Rattle.gaps.specs.declared.Gaps.{Gaps}
-use Rattle.gaps.specs.declared.Gaps.TheVariants.{Broken}
 use Rattle.nodechecks.specs.Nodes.{node_fine, used_row, fine_gaps, NodeFits}
 use Rattle.nodechecks.proofs.RowLaws.{used_short}
 
@@ -41,7 +40,7 @@ fields_decide limits table store k p s e =
 module _ (limits : Limits) (table store : List ℕ) (k : ℕ) (row : Row) (read : row ≡ row_at table k)
     (t : Bool) (used : t ≡ used_row limits store k row) where
   -- the words or bytes of the slot are wrong
-  pub node_unused : (below above : ℕ) → t ≡ false → Broken ≡ fine_gaps limits table store k below above
+  pub node_unused : (below above : ℕ) → t ≡ false → None ≡ fine_gaps limits table store k below above
   unfolding fine_gaps node_fine used_row
   node_unused below above f = rw (sym (rw read at used) ∙ f)
 
@@ -57,7 +56,7 @@ module _ (limits : Limits) (table store : List ℕ) (k : ℕ) (row : Row) (read 
       })
 
   -- they are right, and the fields decide
-  pub node_placed : (below above : ℕ) (x : Label) (r : Gaps) → t ≡ true → x ≡ label_at limits store k row.len
+  pub node_placed : (below above : ℕ) (x : Label) (r : Option Gaps) → t ≡ true → x ≡ label_at limits store k row.len
       → r ≡ fields_fine row.place row.side (gaps_in limits table store below x above)
       → r ≡ fine_gaps limits table store k below above
   unfolding fine_gaps

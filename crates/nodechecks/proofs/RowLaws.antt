@@ -4,20 +4,20 @@
 -- `charge_unknown`, `charge_by_square`: the test of a charge.
 -- `used_length`, `used_bytes`, `used_charge`: the test of a slot in use.
 -- `used_short`: the label of a slot in use lies in its part.
--- `freed_broken`, `freed_tail`: the test of a freed slot.
-use Rattle.std.proofs.Common.{◌≡◌, ℕ, ◌+◌, ◌*◌, ◌%◌, ◌^◌, ◌<◌, ◌≤◌, Bool, true, false, ◌&&◌, ◌||◌, eqb, leb, List, drop, sym, refl, ◌∙◌, mul-le-mul_left, arith, Bor, ne_eqb, le-leb, leb-true}
+use Rattle.std.proofs.Common.{◌≡◌, ℕ, ◌+◌, ◌*◌, ◌%◌, ◌<◌, ◌≤◌, Bool, true, false, ◌&&◌, ◌||◌, eqb, leb, List, drop, sym, refl, ◌∙◌, mul-le-mul_left, arith, take, length, ◌-◌, length-drop, Bor, ne_eqb, le-leb, leb-true}
 use native.Mathlib.Decide.{dec_le}
+use lib.Seq.{take_all}
 use borrow.Author.Tests.{lt-leb}
 use Rattle.types.specs.declared.Limits.{Limits}
 use Rattle.types.specs.declared.Row.{Row}
 use Rattle.trees.specs.Charges.{unknown, is_charge}
 use Rattle.trees.proofs.Views.{both_true}
 use Rattle.tables.specs.Words.{part_at, label_at}
-use Rattle.tables.specs.Sound.{all_zero, zero_besides_left}
+use Rattle.tables.specs.Sound.{all_zero}
 use Rattle.words.specs.Parts.{LabelInside, Shows}
 use Rattle.gaps.specs.Windows.{PartFits}
 use Rattle.gaps.proofs.PartLaws.{part_ends}
-use Rattle.nodechecks.specs.Nodes.{used_row, freed_row}
+use Rattle.nodechecks.specs.Nodes.{used_row}
 
 -- a number is at most 100 exactly where its square is at most 10,000
 square_test : (n : ℕ) → leb (n * n) 10000 ≡ leb n 100
@@ -41,11 +41,14 @@ charge_by_square n other = square_test n ∙ go (leb n 100)
     go false = sym (ne_eqb n unknown other)
 
 -- what a length leaves of the width, modulo 2^64, is less than the width exactly where it is 1 to the width
-pub rest_within : (r len w : ℕ) → (r + len) % 2 ^ 64 ≡ w → w ≤ 4096 → len < 2 ^ 64 → r < w → (1 ≤ len) × (len ≤ w)
-rest_within r len w wraps small short less = (omega arith, omega arith)
+abbrev left_of : (w len : ℕ) → ℕ
+left_of w len = (w + (18446744073709551616 - len)) % 18446744073709551616
 
-rest_beyond : (r len w : ℕ) → (r + len) % 2 ^ 64 ≡ w → r < 2 ^ 64 → w ≤ r → 1 ≤ len → len ≤ w → ⊥
-rest_beyond r len w wraps fits more some short = omega arith
+pub rest_within : (w len : ℕ) → w ≤ 4096 → len < 65536 → left_of w len < w → (1 ≤ len) × (len ≤ w)
+rest_within w len small short less = (omega arith, omega arith)
+
+rest_beyond : (w len : ℕ) → w ≤ 4096 → w ≤ left_of w len → 1 ≤ len → len ≤ w → ⊥
+rest_beyond w len small more some short = omega arith
 
 -- the part lies in the store
 pub part_inside : (limits : Limits) (store : List ℕ) (k first : ℕ) → PartFits limits store k first
@@ -55,24 +58,26 @@ part_inside limits store k first fits =
 
 -- the part that is shown is tested
 pub part_tested : (limits : Limits) (store part : Bor (List ℕ)) (k first : ℕ) (r : Bool)
-    → Shows limits store k limits.width part → r ≡ all_zero (drop first part.now)
+    → Shows limits store k limits.width part → r ≡ all_zero (take (length part.now - first) (drop first part.now))
     → r ≡ all_zero (drop first (part_at limits store.now k))
 unfolding part_at label_at
-part_tested limits store part k first r shows e = rw shows.bytes at e
+part_tested limits store part k first r shows e =
+    let whole : length (drop first part.now) ≤ length part.now - first = omega (arith, length-drop first part.now) in
+    rw (take_all _ _ whole, shows.bytes) at e
 
 module _ (limits : Limits) (store : List ℕ) (k : ℕ) (row : Row) where
   -- a slot in use has a length of 1 to the width
-  pub used_length : (r : ℕ) → (r + row.len) % 2 ^ 64 ≡ limits.width → r < 2 ^ 64 → limits.width ≤ r
+  pub used_length : limits.width ≤ 4096 → limits.width ≤ left_of limits.width row.len
       → false ≡ used_row limits store k row
   unfolding used_row
-  used_length r wraps fits more = go (dec_le 1 row.len) (dec_le row.len limits.width)
+  used_length small more = go (dec_le 1 row.len) (dec_le row.len limits.width)
     where
       go : Dec (1 ≤ row.len) → Dec (row.len ≤ limits.width)
           → false ≡ (leb 1 row.len && (leb row.len limits.width
           && (is_charge row.charge && all_zero (drop row.len (part_at limits store k)))))
       go (no none) short = rw (lt-leb 1 row.len (omega arith))
       go (yes some) (no long) = rw (le-leb 1 row.len some, lt-leb row.len limits.width (omega arith))
-      go (yes some) (yes short) = absurd (rest_beyond r row.len limits.width wraps fits more some short)
+      go (yes some) (yes short) = absurd (rest_beyond limits.width row.len small more some short)
 
   -- the bytes after the label's end are zero
   pub used_bytes : (t : Bool) → 1 ≤ row.len → row.len ≤ limits.width
@@ -99,14 +104,3 @@ module _ (limits : Limits) (store : List ℕ) (k : ℕ) (row : Row) where
   pub used_short : used_row limits store k row ≡ true → row.len ≤ limits.width
   unfolding used_row
   used_short e = leb-true _ _ ((both_true _ _).0 ((both_true (leb 1 row.len) _).0 e).1).0
-
-  -- a freed slot has all words zero but its link
-  pub freed_broken : (t : Bool) → t ≡ zero_besides_left row → t ≡ false → false ≡ freed_row limits store k row
-  unfolding freed_row
-  freed_broken t e f = rw (sym e ∙ f)
-
-  -- the bytes of a freed slot decide
-  pub freed_tail : (t r : Bool) → t ≡ zero_besides_left row → t ≡ true → r ≡ all_zero (part_at limits store k)
-      → r ≡ freed_row limits store k row
-  unfolding freed_row
-  freed_tail t r e f z = rw (sym e ∙ f) z

@@ -1,5 +1,5 @@
 -- The test of a node between its neighbours, and that of a freed slot; what the test of a node takes for granted.
-use Rattle.std.specs.Prelude.{◌≡◌, ℕ, ◌≤◌, Bool, ◌&&◌, List, drop, ◌==◌, nat_le}
+use Rattle.std.specs.Prelude.{◌≡◌, ℕ, ◌≤◌, Bool, ◌&&◌, List, drop, ◌==◌, nat_le, Option}
 use Rattle.types.specs.declared.Limits.{Limits}
 use Rattle.types.specs.declared.Row.{Row}
 use Rattle.labels.specs.Neighbours.{Neighbour, held, difference}
@@ -36,7 +36,7 @@ fine_between limits table store k below above =
     node_fine limits table store k (below_in limits table store below) (above_in limits table store above)
 
 -- and its difference places with both, where it passes
-unfoldable pub fine_gaps : Limits → (table store : List ℕ) → (k below above : ℕ) → Gaps
+unfoldable pub fine_gaps : Limits → (table store : List ℕ) → (k below above : ℕ) → Option Gaps
 fine_gaps limits table store k below above =
     both_when (fine_between limits table store k below above)
     (difference (below_in limits table store below) (held (entry_at limits table store k).label))

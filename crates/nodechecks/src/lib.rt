@@ -10,7 +10,6 @@ ghost use Rattle.gaps.specs.Windows.{PartFits};
 ghost use Rattle.nodechecks.specs.Nodes.{used_row, freed_row, fine_gaps, NodeFits};
 
 use gaps::Gaps;
-use std::num::wrapping_sub_usize;
 use types::{Limits, Row};
 use words::charge::UNKNOWN;
 
@@ -20,7 +19,7 @@ fn part_zero(limits: Limits, store: &[u8], slot: usize, first: usize) -> bool
     ensures { result ≡ all_zero (drop first (part_at limits store.now slot)) }
 {
     let part = words::parts::label_at(limits, store, slot, limits.width);
-    zeros::bytes_zero(part, first)
+    zeros::bytes_zero(&part[first..])
 }
 
 // Whether a word is a charge. One that is not known, as an insert leaves it, passes by one test. The others are told by
@@ -43,53 +42,32 @@ fn used_row(limits: Limits, store: &[u8], slot: usize, row: Row) -> bool
     ensures { result ≡ used_row limits store.now slot row }
 {
     let len = row.len as usize;
-    let rest = wrapping_sub_usize(limits.width, len);
-    if limits.width <= rest {
-        return false;
-    }
-    if !part_zero(limits, store, slot, len) {
-        return false;
-    }
-    charge_passes(row.charge)
+    let rest = limits.width.wrapping_sub(len);
+    rest < limits.width && part_zero(limits, store, slot, len) && charge_passes(row.charge)
 }
 
 // Whether all words of a row but the first are zero.
 fn zero_besides_left(row: Row) -> bool
     ensures { result ≡ zero_besides_left row }
 {
-    if row.right != 0 {
-        return false;
-    }
-    if row.place != 0 {
-        return false;
-    }
-    if row.side != 0 {
-        return false;
-    }
-    if row.balance != 0 {
-        return false;
-    }
-    if row.len != 0 {
-        return false;
-    }
-    if row.value != 0 {
-        return false;
-    }
-    if row.charge != 0 {
-        return false;
-    }
-    true
+    zeros::words_zero(&[
+        row.right,
+        row.place,
+        row.side,
+        row.balance,
+        row.len,
+        row.value,
+        row.charge,
+    ])
 }
 
 // Whether a freed slot is zero besides its link.
+#[tactic(auto, unfolding(crate::specs::Nodes::freed_row))]
 pub fn freed_row(limits: Limits, store: &[u8], slot: usize, row: Row) -> bool
     requires { PartFits limits store.now slot 0 }
     ensures { result ≡ freed_row limits store.now slot row }
 {
-    if !zero_besides_left(row) {
-        return false;
-    }
-    part_zero(limits, store, slot, 0)
+    zero_besides_left(row) && part_zero(limits, store, slot, 0)
 }
 
 // The whole test of a node between the slots of its window, which part at a place.
@@ -102,12 +80,12 @@ pub fn node_gaps(
     below: usize,
     above: usize,
     apart: usize,
-) -> Gaps
+) -> Option<Gaps>
     requires { NodeFits limits table.now store.now slot row below above apart }
     ensures { result ≡ fine_gaps limits table.now store.now slot below above }
 {
     if !used_row(limits, store, slot, row) {
-        return Gaps::Broken;
+        return None;
     }
     let label = words::parts::label_at(limits, store, slot, row.len as usize);
     let place = row.place as usize;

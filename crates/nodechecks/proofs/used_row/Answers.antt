@@ -1,21 +1,25 @@
 use Rattle.nodechecks.proofs.RowLaws.{rest_within, used_length, used_bytes, used_charge}
-use Rattle.std.proofs.Common.{arith}
+use Rattle.std.proofs.Common.{arith, sym, ◌∙◌}
+use borrow.Author.Tests.{ltb-true}
 use Rattle.nodechecks.proofs.used_row.Goals as goal
+use Rattle.nodechecks.proofs.used_row.Goals.{then-rest-limits, else-rest-limits}
 
-pub returns-then-limits-rest : goal.returns-then-limits-rest
-returns-then-limits-rest c = search used_length
+pub returns-then-part_zero : goal.returns-then-part_zero
+returns-then-part_zero c =
+    elim c.if-rest-limits.branch [
+      | then-rest-limits w ↦
+          let within = rest_within _ c.args.row.len c.requires.width_bound (omega arith) w.if-rest-limits.true in
+          used_charge _ _ _ _ _ _ within.0 within.1 w.part_zero.ensures (sym w.value-is ∙ c.if-part_zero.true)
+          c.charge_passes.ensures
+      | else-rest-limits w ↦ absurd (omega (arith, ltb-true _ _ (sym w.value-is ∙ c.if-part_zero.true)))
+    ]
 
-pub returns-then-not-part_zero : goal.returns-then-not-part_zero
-returns-then-not-part_zero c =
-    let within =
-    rest_within _ _ _ c.wrapping_sub_usize-rest.ensures.value c.requires.width_bound
-    (omega arith) c.if-limits-rest.false in
-    used_bytes _ _ _ _ _ within.0 within.1 c.part_zero.ensures c.if-not-part_zero.true
-
-pub returns : goal.returns
-returns c =
-    let within =
-    rest_within _ _ _ c.wrapping_sub_usize-rest.ensures.value c.requires.width_bound
-    (omega arith) c.if-limits-rest.false in
-    used_charge _ _ _ _ _ _ within.0 within.1 c.part_zero.ensures c.if-not-part_zero.false
-    c.charge_passes.ensures
+pub returns-else-part_zero : goal.returns-else-part_zero
+returns-else-part_zero c =
+    c.if-part_zero.false
+    ∙ elim c.if-rest-limits.branch [
+      | then-rest-limits w ↦
+          let within = rest_within _ c.args.row.len c.requires.width_bound (omega arith) w.if-rest-limits.true in
+          used_bytes _ _ _ _ _ within.0 within.1 w.part_zero.ensures (sym w.value-is ∙ c.if-part_zero.false)
+      | else-rest-limits w ↦ used_length _ _ _ _ c.requires.width_bound w.if-rest-limits.false
+    ]
