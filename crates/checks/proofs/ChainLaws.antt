@@ -43,21 +43,21 @@ module _ (limits : Limits) (table store : List ℕ) where
   unfolding check_chain
   chain_stray n k e = rw (e, check_chain)
 
--- the walk of a chain of count slots from a link has come to a slot, with so many left
-module _ (limits : Limits) (table store : List ℕ) (count link remaining slot : ℕ)
-    (so : check_chain limits table store remaining slot ≡ check_chain limits table store count link) where
-  -- none is left
-  pub chain_done : remaining ≤ 0 → eqb slot 0 ≡ check_chain limits table store count link
+-- the walk of a chain of count slots from a link has come past so many of them, to a slot
+module _ (limits : Limits) (table store : List ℕ) (count link past slot : ℕ)
+    (so : check_chain limits table store (count - past) slot ≡ check_chain limits table store count link) where
+  -- past all
+  pub chain_done : count ≤ past → eqb slot 0 ≡ check_chain limits table store count link
   unfolding check_chain
-  chain_done h = let none : remaining ≡ 0 = omega arith in rw none at so
+  chain_done h = let none : count - past ≡ 0 = omega arith in rw none at so
 
-  module _ (more : 0 < remaining) where
-    next : check_chain limits table store (suc (remaining - 1)) slot ≡ check_chain limits table store count link
-    next = let one_more : remaining ≡ suc (remaining - 1) = omega arith in rw one_more at so
+  module _ (more : past < count) where
+    next : check_chain limits table store (suc (count - (past + 1))) slot ≡ check_chain limits table store count link
+    next = let one_more : count - past ≡ suc (count - (past + 1)) = omega arith in rw one_more at so
 
     -- the chain ends too soon
     pub chain_ended : slot < 1 → false ≡ check_chain limits table store count link
-    chain_ended h = sym (chain_stray limits table store (remaining - 1) slot (rw (lt-leb 1 slot h))) ∙ next
+    chain_ended h = sym (chain_stray limits table store (count - (past + 1)) slot (rw (lt-leb 1 slot h))) ∙ next
 
     -- the link is out of range
     pub chain_outside : (high : ℕ) → ChainFits limits table store high → 1 ≤ slot → high < slot
@@ -66,13 +66,13 @@ module _ (limits : Limits) (table store : List ℕ) (count link remaining slot :
         let above : high_mark table < slot = omega arith in
         let stray : leb 1 slot && leb slot (high_mark table) ≡ false =
         rw (le-leb 1 slot p, lt-leb slot (high_mark table) above) in
-        sym (chain_stray limits table store (remaining - 1) slot stray) ∙ next
+        sym (chain_stray limits table store (count - (past + 1)) slot stray) ∙ next
 
     module _ (row : Row) (t : Bool) (high : ℕ) (fits : ChainFits limits table store high)
         (low : 1 ≤ slot) (below : slot ≤ high) (read : row ≡ row_at table slot)
         (tested : t ≡ freed_row limits store slot row) where
-      step : t && check_chain limits table store (remaining - 1) row.left ≡ check_chain limits table store count link
-      step = rw (tested, read) (sym (chain_step limits table store (remaining - 1) slot low (omega arith)) ∙ next)
+      step : t && check_chain limits table store (count - (past + 1)) row.left ≡ check_chain limits table store count link
+      step = rw (tested, read) (sym (chain_step limits table store (count - (past + 1)) slot low (omega arith)) ∙ next)
 
       -- the slot is not as freed
       pub chain_broken : t ≡ false → false ≡ check_chain limits table store count link
@@ -80,7 +80,7 @@ module _ (limits : Limits) (table store : List ℕ) (count link remaining slot :
 
       -- the slot is as freed
       pub chain_on : t ≡ true
-          → check_chain limits table store (remaining - 1) row.left ≡ check_chain limits table store count link
+          → check_chain limits table store (count - (past + 1)) row.left ≡ check_chain limits table store count link
       chain_on e = rw e at step
 
 -- ---- the unused rest

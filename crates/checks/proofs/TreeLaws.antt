@@ -9,30 +9,31 @@ use mathlib.Core.Bool.{Bool, true, false}
 use native.Mathlib.Omega.{arith}
 use native.Mathlib.Nat.{one-le-pow}
 use lib.Dec.{ltb}
+use Rattle.std.specs.Prelude.{Option, Some, None}
 use Rattle.types.specs.declared.Limits.{Limits}
 use Rattle.tables.specs.Words.{row_at}
 use Rattle.nodechecks.specs.Nodes.{fine_between}
 use Rattle.heights.specs.declared.Subtree.{Subtree}
-use Rattle.heights.specs.declared.Subtree.TheVariants.{Unsound, Sound}
+use Rattle.heights.specs.declared.TheConstants.{EMPTY}
 use Rattle.heights.specs.Over.{over}
 use Rattle.heights.specs.Fits.{Small}
 use Rattle.heights.proofs.OverLaws.{small_over}
 use Rattle.checks.specs.Check.{check_tree}
 
 -- what is found at a link that is not 0: it is out of range, its node is not fine, or what both sons give
-abbrev pub found : (outside fine : Bool) → Subtree → Subtree
-found true fine s = Unsound
+abbrev pub found : (outside fine : Bool) → Option Subtree → Option Subtree
+found true fine s = None
 found false true s = s
-found false false s = Unsound
+found false false s = None
 
-small_found : (n : ℕ) (outside fine : Bool) (s : Subtree) → Small n s → Small n (found outside fine s)
+small_found : (n : ℕ) (outside fine : Bool) (s : Option Subtree) → Small n s → Small n (found outside fine s)
 small_found n true fine s p = tt
 small_found n false true s p = p
 small_found n false false s p = tt
 
 module _ (limits : Limits) (table store : List ℕ) where
   -- what both sons of the node in slot k give
-  unfoldable pub sons : (n k below above : ℕ) → Subtree
+  unfoldable pub sons : (n k below above : ℕ) → Option Subtree
   sons n k below above =
       over (row_at table k).balance (check_tree limits table store n (row_at table k).left below k)
       (check_tree limits table store n (row_at table k).right k above)
@@ -46,8 +47,8 @@ module _ (limits : Limits) (table store : List ℕ) where
   tree_step n k below above =
       go (ltb limits.slots (suc k)) (fine_between limits table store (suc k) below above) (sons n (suc k) below above)
     where
-      go : (outside fine : Bool) (s : Subtree)
-          → ◌≡◌ {A = Subtree} (elim outside [ true ↦ Unsound | false ↦ elim fine [ true ↦ s | false ↦ Unsound ] ])
+      go : (outside fine : Bool) (s : Option Subtree)
+          → ◌≡◌ {A = Option Subtree} (elim outside [ true ↦ None | false ↦ elim fine [ true ↦ s | false ↦ None ] ])
           (found outside fine s)
       go true fine s = refl
       go false true s = refl
@@ -88,19 +89,19 @@ tree_node limits table store (suc n) (suc k) below above some deep =
 
 module _ (limits : Limits) (table store : List ℕ) (remaining link below above : ℕ) where
   -- at link 0 the walk finds the empty tree
-  pub tree_none : link ≡ 0 → Sound 0 0 ≡ check_tree limits table store remaining link below above
+  pub tree_none : link ≡ 0 → Some EMPTY ≡ check_tree limits table store remaining link below above
   unfolding check_tree
   tree_none e = rw e (go remaining)
     where
-      go : (n : ℕ) → Sound 0 0 ≡ check_tree limits table store n 0 below above
+      go : (n : ℕ) → Some EMPTY ≡ check_tree limits table store n 0 below above
       go zero = refl
       go (suc n) = refl
 
   -- with no height left the walk finds no node
-  pub tree_deep : (link ≡ 0 → ⊥) → remaining ≡ 0 → Unsound ≡ check_tree limits table store remaining link below above
+  pub tree_deep : (link ≡ 0 → ⊥) → remaining ≡ 0 → None ≡ check_tree limits table store remaining link below above
   unfolding check_tree
   tree_deep n e = rw e (go link n)
     where
-      go : (k : ℕ) → (k ≡ 0 → ⊥) → Unsound ≡ check_tree limits table store 0 k below above
+      go : (k : ℕ) → (k ≡ 0 → ⊥) → None ≡ check_tree limits table store 0 k below above
       go zero n = absurd (n refl)
       go (suc k) n = refl

@@ -5,11 +5,6 @@ use Rattle.tables.specs.Words.{high_mark}
 use Rattle.words.specs.Limits.{SizesFit}
 use Rattle.gaps.specs.Windows.{Between}
 
--- a node to be read, between two slots
-pub record VisitFits (limits : Limits) (table store : List ℕ) (k below above apart : ℕ) : Type 0 where
-  pub low : 1 ≤ k
-  pub between : Between limits table store below above apart
-
 -- a subtree between two slots
 pub record WalkFits (limits : Limits) (table store : List ℕ) (remaining below above apart : ℕ) : Type 0 where
   pub deep : remaining ≤ 64

@@ -1,3 +1,2 @@
 pub mod Check
 pub mod Fits
-pub mod Visits

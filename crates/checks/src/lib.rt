@@ -8,33 +8,9 @@ pub mod walks;
 
 ghost use Rattle.std.specs.Prelude.{◌≡◌};
 ghost use Rattle.words.specs.Limits.{SizesFit};
-ghost use Rattle.checks.specs.Check.{count_is, sound_by_walks};
+ghost use Rattle.checks.specs.Check.{sound_by_walks};
 
-use heights::Subtree;
 use types::Limits;
-
-// What the test of a node finds: it is not as it must be, or its links, its balance word and its difference places.
-#[derive(Clone, Copy)]
-pub enum Node {
-    Wrong,
-    Fine {
-        smaller: usize,
-        larger: usize,
-        balance: u16,
-        lower: usize,
-        upper: usize,
-    },
-}
-
-// Whether a tree is sound and has so many nodes.
-fn count_is(held: usize, tree: Subtree) -> bool
-    ensures { result ≡ count_is held tree }
-{
-    match tree {
-        Subtree::Unsound => false,
-        Subtree::Sound { height: _, count } => count == held,
-    }
-}
 
 // The whole test.
 pub fn sound_within(limits: Limits, table: &[u16], store: &[u8]) -> bool
@@ -50,9 +26,9 @@ pub fn sound_within(limits: Limits, table: &[u16], store: &[u8]) -> bool
         return false;
     }
     let root = table[0] as usize;
-    let tree = walks::check_tree(limits, table, store, limits.depth, root, 0, 0, 0);
-    if !count_is(held, tree) {
+    let Some(tree) = walks::check_tree(limits, table, store, limits.depth, root, 0, 0, 0) else {
         return false;
-    }
-    walks::check_chain(limits, table, store, high, high - held, table[2] as usize)
+    };
+    let free = table[2] as usize;
+    tree.count == held && walks::check_chain(limits, table, store, high, high - held, free)
 }

@@ -3,11 +3,12 @@
 -- `fine_of_check`: the walk's tests pass only on a fine tree, and find its height and size.
 -- `check_of_fine`: on a fine tree they pass.
 use mathlib.Core.List.{List}
-use mathlib.Core.Path.{◌≡◌, refl}
+use mathlib.Core.Path.{◌≡◌, refl, sym}
 use mathlib.Core.Bool.{Bool, true, false}
 use Prim.Native.Nat.{ℕ, suc, ◌≤◌}
 use native.Mathlib.Omega.{arith}
 use borrow.Author.Tests.{leb-true, le-leb, eqb-true, eq-eqb}
+use Rattle.std.specs.Prelude.{Option}
 use Rattle.types.specs.declared.Limits.{Limits}
 use Rattle.labels.specs.Neighbours.{Neighbour, held}
 use Rattle.trees.specs.Trees.{Entry, Tree, node, size}
@@ -20,10 +21,9 @@ use Rattle.tables.specs.Sound.{used_slots, true_balances, true_prefixes}
 use Rattle.nodechecks.specs.Nodes.{node_fine}
 use Rattle.nodechecks.proofs.NodeTests.{NodeFine, node_passed}
 use Rattle.heights.specs.declared.Subtree.{Subtree}
-use Rattle.heights.specs.declared.Subtree.TheVariants.{Sound}
 use Rattle.trees.proofs.Passing.{and_true}
 use Rattle.tables.proofs.Reading.{Stands, stands_none, stands_node}
-use Rattle.decides.proofs.TreeWalks.{kept_if, check_nodes}
+use Rattle.decides.proofs.TreeWalks.{sound_as, found_once, kept_if, check_nodes}
 use Rattle.decides.proofs.SonTests.{node_passes, unsound_not_sound, over_sound, sound_over}
 
 -- the parts of the sentence on sound tables that speak of the nodes of a tree between p and s
@@ -103,18 +103,18 @@ pub record Found (limits : Limits) (table store : List ℕ) (p s : Neighbour) (t
   pub many : c ≡ size t
 
 -- A result that is sound was kept.
-kept_sound : (b : Bool) (x : Subtree) {h c : ℕ} → kept_if b x ≡ Sound h c → (b ≡ true) × (x ≡ Sound h c)
+kept_sound : (b : Bool) (x : Option Subtree) {h c : ℕ} → kept_if b x ≡ sound_as h c → (b ≡ true) × (x ≡ sound_as h c)
 kept_sound true x found = (refl, found)
 kept_sound false x found = unsound_not_sound found
 
 module _ (limits : Limits) (table store : List ℕ) where
   -- The walk's tests pass only on a fine tree, and find its height and size.
   pub fine_of_check : {link : ℕ} {t : Tree} → Stands limits table store t link → (p s : Neighbour) {h c : ℕ}
-      → check_nodes limits table store p s t ≡ Sound h c → Found limits table store p s t h c
-  fine_of_check stands_none p s found = record {
+      → check_nodes limits table store p s t ≡ sound_as h c → Found limits table store p s t h c
+  fine_of_check stands_none p s {h} {c} found = record {
     fine = record { used = refl; between = tt; balanced = refl; balances = refl; prefixes = refl };
-    high = cc;
-    many = cc;
+    high = sym (found_once 0 0 h c found).0;
+    many = sym (found_once 0 0 h c found).1;
   }
   fine_of_check (stands_node {k} {l} {r} low up at_left at_right) p s found =
       let x = (entry_at limits table store k).label in
@@ -138,7 +138,7 @@ module _ (limits : Limits) (table store : List ℕ) where
 
   -- On a fine tree the walk's tests pass.
   pub check_of_fine : {link : ℕ} {t : Tree} → Stands limits table store t link → (p s : Neighbour)
-      → Fine limits table store p s t → check_nodes limits table store p s t ≡ Sound (height t) (size t)
+      → Fine limits table store p s t → check_nodes limits table store p s t ≡ sound_as (height t) (size t)
   check_of_fine stands_none p s fine = refl
   check_of_fine (stands_node {k} {l} {r} low up at_left at_right) p s fine =
       let x = (entry_at limits table store k).label in

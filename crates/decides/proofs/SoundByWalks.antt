@@ -8,6 +8,7 @@ use Prim.Native.Nat.{ℕ, ◌-◌, ◌≤◌}
 use native.Mathlib.Omega.{arith}
 use lib.Dec.{leb}
 use borrow.Author.Tests.{leb-true, eqb-true}
+use Rattle.std.specs.Prelude.{Option, Some, None}
 use Rattle.types.specs.declared.Limits.{Limits}
 use Rattle.labels.specs.Neighbours.{none_below, none_above}
 use Rattle.trees.specs.Trees.{Tree, size}
@@ -18,23 +19,22 @@ use Rattle.tables.specs.Words.{root_link, labels_held, first_free, high_mark}
 use Rattle.tables.specs.Sound.{Reading, reads, read_tree, unused_slots, sound}
 use Rattle.checks.specs.Check.{check_tree, check_chain, count_is, sound_by_walks}
 use Rattle.heights.specs.declared.Subtree.{Subtree}
-use Rattle.heights.specs.declared.Subtree.TheVariants.{Unsound, Sound}
 use Rattle.trees.proofs.Passing.{false_not_true, same_tests}
 use Rattle.tables.proofs.Reading.{Stands, TreeRead, no_tree, a_tree, tree_read}
 use Rattle.tables.proofs.Reading.{read_when_follows}
 use Rattle.tables.proofs.Clauses.{SoundRead, sound_of_read}
 use Rattle.decides.proofs.SonTests.{unsound_not_sound}
-use Rattle.decides.proofs.TreeWalks.{check_reading, walk_of_reading}
+use Rattle.decides.proofs.TreeWalks.{sound_as, check_reading, walk_of_reading}
 use Rattle.decides.proofs.FineTrees.{Fine, fine_of_check}
 use Rattle.decides.proofs.ChainWalks.{chain_of_check}
 use Rattle.decides.proofs.AllottedSlots.{exactly_allotted}
 use Rattle.decides.proofs.WalksPass.{walks_of_sound}
 
 -- What counts n nodes is sound, with some height.
-sound_of_count : (n : ℕ) (x : Subtree) → count_is n x ≡ true → (h : ℕ) × (x ≡ Sound h n)
+sound_of_count : (n : ℕ) (x : Option Subtree) → count_is n x ≡ true → (h : ℕ) × (x ≡ sound_as h n)
 unfolding count_is
-sound_of_count n Unsound passed = false_not_true passed
-sound_of_count n (Sound h c) passed = (h, ap (Sound h) (eqb-true c n passed))
+sound_of_count n None passed = false_not_true passed
+sound_of_count n (Some s) passed = (s.height, ap (sound_as s.height) (eqb-true s.count n passed))
 
 -- a fine tree of n nodes is read at a link
 record FineRead (limits : Limits) (table store : List ℕ) (remaining link n : ℕ) : Type 0 where
@@ -53,7 +53,7 @@ module _ (limits : Limits) (table store : List ℕ) where
       (sym (walk_of_reading limits table store remaining link 0 0) ∙ (sound_of_count n _ passed).1)
     where
       go : {x : Reading} {h : ℕ} → read_tree limits table store remaining link ≡ x → TreeRead limits table store link x
-          → check_reading limits table store none_below none_above x ≡ Sound h n
+          → check_reading limits table store none_below none_above x ≡ sound_as h n
           → FineRead limits table store remaining link n
       go is no_tree found = unsound_not_sound found
       go is (a_tree {t} stands) found =

@@ -2,10 +2,11 @@
 -- `check_nodes`: the same tests, made on a plain tree.  `check_reading`: on what was read.
 -- `walk_of_reading`: the walk finds what these tests find of the tree at the link.
 use mathlib.Core.List.{List}
-use mathlib.Core.Path.{◌≡◌, refl}
+use mathlib.Core.Path.{◌≡◌, refl, ap}
 use mathlib.Core.Bool.{Bool, true, false}
 use Prim.Native.Nat.{ℕ, zero, suc}
 use lib.Dec.{ltb}
+use Rattle.std.specs.Prelude.{Option, Some, None}
 use Rattle.types.specs.declared.Limits.{Limits}
 use Rattle.labels.specs.Neighbours.{Neighbour, held}
 use Rattle.trees.specs.Trees.{Entry, Tree, empty, node}
@@ -14,18 +15,27 @@ use Rattle.tables.specs.Sound.{Reading, unreadable, reads, read_node, read_tree}
 use Rattle.gaps.specs.Windows.{below_in, above_in}
 use Rattle.nodechecks.specs.Nodes.{node_fine}
 use Rattle.heights.specs.declared.Subtree.{Subtree}
-use Rattle.heights.specs.declared.Subtree.TheVariants.{Unsound, Sound}
 use Rattle.heights.specs.Over.{over}
 use Rattle.checks.specs.Check.{check_tree}
 
+-- a subtree that is found sound, h high with c nodes
+abbrev pub sound_as : (h c : ℕ) → Option Subtree
+sound_as h c = Some (record { height = h; count = c })
+
+-- it has one height and one number of nodes
+pub found_once : (h c i d : ℕ) → sound_as h c ≡ sound_as i d → (h ≡ i) × (c ≡ d)
+found_once h c i d e =
+    let same : ◌≡◌ {A = Subtree} (record { height = h; count = c }) (record { height = i; count = d }) = cc in
+    (ap (λ (s : Subtree). s.height) same, ap (λ (s : Subtree). s.count) same)
+
 -- a node's result, where the node itself is fine
-abbrev pub kept_if : Bool → Subtree → Subtree
+abbrev pub kept_if : Bool → Option Subtree → Option Subtree
 kept_if true x = x
-kept_if false x = Unsound
+kept_if false x = None
 
 -- the tests of the walk on a plain tree between the neighbours p and s
-abbrev pub check_nodes : Limits → (table store : List ℕ) → (p s : Neighbour) → Tree → Subtree
-check_nodes limits table store p s empty = Sound 0 0
+abbrev pub check_nodes : Limits → (table store : List ℕ) → (p s : Neighbour) → Tree → Option Subtree
+check_nodes limits table store p s empty = sound_as 0 0
 check_nodes limits table store p s (node l e r) =
     kept_if (node_fine limits table store e.slot p s)
     (over (row_at table e.slot).balance
@@ -33,18 +43,18 @@ check_nodes limits table store p s (node l e r) =
     (check_nodes limits table store (held e.label) s r))
 
 -- the same tests on what was read
-abbrev pub check_reading : Limits → (table store : List ℕ) → (p s : Neighbour) → Reading → Subtree
-check_reading limits table store p s unreadable = Unsound
+abbrev pub check_reading : Limits → (table store : List ℕ) → (p s : Neighbour) → Reading → Option Subtree
+check_reading limits table store p s unreadable = None
 check_reading limits table store p s (reads t) = check_nodes limits table store p s t
 
 -- A node over an unsound subtree is unsound.
-over_unsound : (balance : ℕ) (x : Subtree) → over balance x Unsound ≡ Unsound
+over_unsound : (balance : ℕ) (x : Option Subtree) → over balance x None ≡ None
 unfolding over
-over_unsound balance Unsound = refl
-over_unsound balance (Sound h c) = refl
+over_unsound balance None = refl
+over_unsound balance (Some s) = refl
 
 -- An unsound result stays so, whatever the node itself is.
-kept_unsound : (b : Bool) → kept_if b Unsound ≡ Unsound
+kept_unsound : (b : Bool) → kept_if b None ≡ None
 kept_unsound true = refl
 kept_unsound false = refl
 

@@ -1,11 +1,9 @@
 -- `walks::check_chain` meets its contract.
--- The loop's invariant: what is left of the chain is as the whole of it. The measure is the number of slots left.
+-- The loop's invariant: what is left of the chain is as the whole of it.
+use Prim.Native.Nat.{◌-◌}
 use mathlib.Core.Path.{◌≡◌}
 use Rattle.checks.specs.Check.{check_chain}
 use Rattle.checks.proofs.walks.check_chain.Given as goal
 
-abbrev pub invariant-loop-remaining : goal.invariant-loop-remaining
-invariant-loop-remaining l = check_chain l.limits l.table l.store l.remaining l.slot ≡ check_chain l.limits l.table l.store l.count l.link
-
-abbrev pub decreases-loop-remaining : goal.decreases-loop-remaining
-decreases-loop-remaining l = l.remaining
+abbrev pub invariant-loop : goal.invariant-loop
+invariant-loop l = check_chain l.limits l.table l.store (l.count - l.counter) l.slot ≡ check_chain l.limits l.table l.store l.count l.link
