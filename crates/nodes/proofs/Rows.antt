@@ -1,14 +1,13 @@
 -- What the test that comes before a node is visited lets through.
 -- `live`: such a link is that of a node.
--- `son_read`, `son_of_row`: a son's link is read by its index in the row.
+-- `son_of_row`: a son's link, by a row that was read.
 -- `live_row`, `live_slot`: its row can be read, and its label can be compared.
 use mathlib.Core.Path.{◌≡◌, sym, ◌∙◌}
 use mathlib.Core.List.{List}
-use mathlib.Core.Bool.{Bool, true, false, ◌||◌}
-use Prim.Native.Nat.{ℕ, ◌+◌, ◌*◌, ◌-◌}
+use mathlib.Core.Bool.{Bool, false, ◌||◌}
+use Prim.Native.Nat.{ℕ, ◌+◌}
 use native.Mathlib.Omega.{arith}
 use lib.Dec.{ltb, eqb}
-use lib.ListN.{get_or}
 use borrow.Author.Tests.{ltb-false, eqb-false}
 use Rattle.types.specs.declared.Limits.{Limits}
 use Rattle.types.specs.declared.Row.{Row}
@@ -16,7 +15,6 @@ use Rattle.tables.specs.Words.{row_at}
 use Rattle.tables.specs.Steps.{is_bad}
 use Rattle.words.specs.Rows.{HasRow}
 use Rattle.words.specs.Limits.{SizesFit}
-use Rattle.trees.specs.Valid.{one_if}
 use Rattle.trees.proofs.Views.{either_false}
 use Rattle.nodes.specs.Nodes.{halts_at, son_of}
 use Rattle.nodes.specs.Bounds.{GoodRow, AtRow, Live}
@@ -81,13 +79,6 @@ module _ (limits : Limits) (table : List ℕ) (link remaining : ℕ) (tested : B
           bytes = sizes.bytes;
           good = rw read node.good;
         }
-
--- a son's link, read by its index in the row
-pub son_read : (table : List ℕ) (k n : ℕ) (right : Bool) → n ≡ one_if right
-    → get_or table (4 + 8 * (k - 1) + n) 0 ≡ son_of (row_at table k) right
-unfolding son_of row_at
-son_read table k n true e = rw e
-son_read table k n false e = let here : 4 + 8 * (k - 1) + 0 ≡ 4 + 8 * (k - 1) = omega arith in rw (e, here)
 
 -- a son's link, by a row that was read
 pub son_of_row : (link : ℕ) (row held : Row) (right : Bool) → row ≡ held → link ≡ son_of held right

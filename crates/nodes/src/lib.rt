@@ -181,6 +181,7 @@ pub fn visit(limits: Limits, store: &[u8], label: &[u8], spot: Spot, row: Row) -
 }
 
 // The link to a son.
+#[tactic(auto, using(std::proofs::lemmas::Grind::common_steps), unfolding(crate::specs::Nodes::son_of))]
 pub fn son(row: Row, right: bool) -> u16
     ensures { result ≡ son_of row right }
 {
@@ -188,6 +189,7 @@ pub fn son(row: Row, right: bool) -> u16
 }
 
 // The same link, read from the table.
+#[tactic(auto, using(std::proofs::lemmas::Grind::common_steps), unfolding(crate::specs::Nodes::son_of, tables::specs::Words::row_at))]
 pub fn son_at(table: &[u16], link: usize, right: bool) -> u16
     requires { HasRow table.now link }
     ensures { result ≡ son_of (row_at table.now link) right }

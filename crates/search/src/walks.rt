@@ -49,8 +49,10 @@ fn walk(
     let mut link = root;
     let mut remaining = limits.depth;
     let mut places = 0;
+    // Arrays are read and written by the side without a branch.
     let mut ends = [1, 1, 1];
     let mut near = [0, 0];
+    // What is left is counted down, as `halts` takes it: a `for` would need an answer past its last node.
     while !nodes::halts(limits, table, link, remaining) {
         let row = words::read_row(table, link);
         let side = row.side as usize;
@@ -70,6 +72,7 @@ fn walk(
                         false
                     }
                     Ordering::Equal => {
+                        // Kept from the first reading, the value costs each search 1 to 3% more instructions.
                         let found = words::read_row(table, link);
                         return Ok(Searched::Found {
                             slot: link,
