@@ -2,7 +2,7 @@
 use crate::counts::Count;
 use crate::hexes::Hex;
 use crate::{Report, Round};
-use images::packing::{Answer, NoAnswer};
+use images::packing::Answer;
 use images::refusals::Refusal;
 use samples::calls::Call;
 use samples::shapes::Shape;
@@ -39,26 +39,27 @@ impl Tally {
     // Counts a call on a sound table that left `held` labels.
     fn count(&mut self, call: Call, round: Round, held: usize) {
         self.calls.add(1);
-        self.count_end(call, round.said);
         self.most.raise_to(held);
         self.reached.add_if(round.reached);
-        self.longest.raise_to(round.written());
-        self.mismatches.add_if(round.agrees.is_err());
+        match round.said {
+            Ok(answer) => self.count_end(call, answer),
+            Err(_) => self.mismatches.add(1),
+        }
     }
 
     // Counts a call's end by its answer.
-    fn count_end(&mut self, call: Call, said: Result<Answer, NoAnswer>) {
-        match said {
-            Ok(Answer::Refused { refusal, .. }) => self.count_refusal(refusal),
-            Ok(Answer::Found { .. }) => self.found.add(1),
-            Ok(Answer::Absent { .. }) => self.absent.add(1),
-            Ok(Answer::Saved(_)) => self.saved.add(1),
-            Ok(Answer::Loaded(_)) => self.loaded.add(1),
-            _ => match call {
-                Call::Insert => self.inserted.add(1),
-                Call::SetCharge => self.charged.add(1),
-                _ => self.deleted.add(1),
-            },
+    fn count_end(&mut self, call: Call, answer: Answer) {
+        match answer {
+            Answer::Refused { refusal, .. } => self.count_refusal(refusal),
+            Answer::Found { .. } => self.found.add(1),
+            Answer::Absent { .. } => self.absent.add(1),
+            Answer::Updated { .. } => self.count_update(call),
+            Answer::Saved(n) => {
+                self.saved.add(1);
+                self.longest.raise_to(n);
+            }
+            Answer::Loaded(_) => self.loaded.add(1),
+            _ => {}
         }
     }
 
@@ -69,6 +70,14 @@ impl Tally {
             Refusal::NotAscending => self.not_ascending.add(1),
             Refusal::BytesAfter => self.bytes_after.add(1),
             _ => {}
+        }
+    }
+
+    fn count_update(&mut self, call: Call) {
+        match call {
+            Call::Insert => self.inserted.add(1),
+            Call::SetCharge => self.charged.add(1),
+            _ => self.deleted.add(1),
         }
     }
 }
@@ -100,12 +109,12 @@ impl Report<Tally> {
     // Counts a call of which neither the end nor what it left is told.
     pub fn count_tried(&mut self, call: Call, label: &[u8], round: Round) -> io::Result<()> {
         self.tally.calls.add(1);
-        self.tally.mismatches.add_if(round.agrees.is_err());
+        self.tally.mismatches.add_if(round.said.is_err());
         self.print_fault(call, label, round)
     }
 
     fn print_fault(&mut self, call: Call, label: &[u8], round: Round) -> io::Result<()> {
-        let Err(fault) = round.agrees else {
+        let Err(fault) = round.said else {
             return Ok(());
         };
         let name = call.name();

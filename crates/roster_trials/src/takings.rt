@@ -4,7 +4,7 @@ use crate::{calls, tallies};
 use comparisons::Request;
 use images::memory::Image;
 use images::outputs::Output;
-use images::packing::{Answer, NoAnswer};
+use images::packing::Answer;
 use plainmap::PlainMap;
 use readings::{machine, values};
 use reports::Report;
@@ -22,15 +22,19 @@ pub fn made(
     text: &Output,
     sheet: Sheet,
 ) -> io::Result<()> {
-    let found = *image;
     let text = text.get(..sheet.bytes).unwrap_or(text);
+    let found = *image;
     let due = readings::judge(image, text, map);
     let said = calls::take(image, text);
-    let agrees = compare(&found, image, map, text, sheet, due, said);
-    report.tally.count(said, agrees.is_ok());
-    match agrees {
-        Ok(()) => Ok(()),
-        Err(fault) => tallies::print_mismatch(report, text, due, said, fault),
+    match compare(&found, image, map, text, sheet, due, said) {
+        Ok(answer) => {
+            report.tally.count(answer);
+            Ok(())
+        }
+        Err(fault) => {
+            report.tally.count_mismatch();
+            tallies::print_mismatch(report, text, due, said, fault)
+        }
     }
 }
 
@@ -47,7 +51,7 @@ pub fn tried(
     made(report, &mut copy, &mut other, text, sheet)
 }
 
-// Compares an answer with the one that is due, and with what is written by the text, and then what is left.
+// Compares an answer with the one that is due, and with what is written by the text; then what is left.
 fn compare(
     found: &Image,
     left: &Image,
@@ -55,26 +59,29 @@ fn compare(
     text: &[u8],
     sheet: Sheet,
     due: Answer,
-    said: Result<Answer, NoAnswer>,
-) -> Result<(), Fault> {
-    ensure(said == Ok(due), Fault::Answer)?;
-    if let Some(written) = sheet.due {
-        ensure(due == answer(written), Fault::Sheet)?;
-    }
-    compare_left(found, left, map, text, entered(due))
+    said: usize,
+) -> Result<Answer, Fault> {
+    ensure(said == usize::from(due), Fault::Answer)?;
+    ensure(is_due(sheet, due), Fault::Sheet)?;
+    compare_left(found, left, map, text, entered(due))?;
+    Ok(due)
 }
 
-// The answer that is written by a text.
-fn answer(due: Due) -> Answer {
-    match due {
-        Due::Taken(records) => Answer::Taken(records),
-        Due::Refused(record, refusal) => Answer::Refused { refusal, record },
+// Whether an answer is what is written by the text.
+fn is_due(sheet: Sheet, answer: Answer) -> bool {
+    match (sheet.due, answer) {
+        (None, _) => true,
+        (Some(Due::Taken(records)), Answer::Taken(n)) => n == records,
+        (Some(Due::Refused(number, why)), Answer::Refused { refusal, record }) => {
+            record == number && refusal == why
+        }
+        _ => false,
     }
 }
 
 // How many records went in, by the answer: all, or those before the one that is refused.
-pub fn entered(said: Answer) -> usize {
-    match said {
+pub fn entered(answer: Answer) -> usize {
+    match answer {
         Answer::Taken(records) => records,
         Answer::Refused { record, .. } => record.saturating_sub(1),
         _ => 0,
@@ -98,43 +105,49 @@ fn compare_left(
     states::compare_map(left, map)
 }
 
+// Whether a call is done for each of the first records of a text, so many, with its label and its value; none is left
+// out.
+fn each<F: FnMut(&[u8], usize) -> bool>(text: &[u8], records: usize, mut call: F) -> bool
+    requires { F.IsAlwaysCallable call }
+{
+    let mut at = 0;
+    let mut done = true;
+    for _ in 0..records {
+        let read = machine::read(text, at);
+        let value = values::value(text, &read).map_or(0, usize::from);
+        done = call(read.label.as_slice(), value) && done;
+        at = read.end;
+    }
+    done
+}
+
 // Makes the public insert of each of the first records of a text, so many, on an image's memory; whether none is
 // refused.
 pub fn insert_each(image: &mut Image, text: &[u8], records: usize) -> bool {
-    let mut at = 0;
-    let mut done = true;
-    for _ in 0..records {
-        let read = machine::read(text, at);
+    each(text, records, |label, number| {
         let request = Request {
             call: Call::Insert,
-            label: read.label.as_slice(),
-            number: values::value(text, &read).map_or(0, usize::from),
+            label,
+            number,
         };
-        done = is_update(rounds::calls::make(image, request)) && done;
-        at = read.end;
-    }
-    done
+        matches!(
+            rounds::calls::make(image, request),
+            Ok(Answer::Updated { .. })
+        )
+    })
 }
 
-// Makes the public delete of each of the first records of a text, so many, on an image's memory and on the map; whether
-// none is refused.
+// Makes the public delete of each, on the map too; whether none is refused and all agree.
 pub fn delete_each(image: &mut Image, map: &mut PlainMap, text: &[u8], records: usize) -> bool {
-    let mut at = 0;
-    let mut done = true;
-    for _ in 0..records {
-        let read = machine::read(text, at);
+    each(text, records, |label, _| {
         let request = Request {
             call: Call::Delete,
-            label: read.label.as_slice(),
+            label,
             number: 0,
         };
-        let round = rounds::made(image, map, request);
-        done = round.agrees.is_ok() && is_update(round.said) && done;
-        at = read.end;
-    }
-    done
-}
-
-fn is_update(said: Result<Answer, NoAnswer>) -> bool {
-    matches!(said, Ok(Answer::Updated { .. }))
+        matches!(
+            rounds::made(image, map, request).said,
+            Ok(Answer::Updated { .. })
+        )
+    })
 }

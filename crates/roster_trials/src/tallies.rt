@@ -1,6 +1,6 @@
 // What a group counts, and the lines that are printed.
 use crate::takings;
-use images::packing::{Answer, NoAnswer};
+use images::packing::Answer;
 use images::refusals::Refusal;
 use reports::Report;
 use reports::counts::Count;
@@ -31,17 +31,14 @@ pub struct Tally {
 }
 
 impl Tally {
-    // Counts a call, by its answer.
-    pub fn count(&mut self, said: Result<Answer, NoAnswer>, agrees: bool) {
+    // Counts a call by its answer.
+    pub fn count(&mut self, answer: Answer) {
         self.calls.add(1);
-        if let Ok(said) = said {
-            match said.refusal() {
-                Some(refusal) => self.count_refusal(refusal),
-                None => self.taken.add(1),
-            }
-            self.records.add(takings::entered(said));
+        self.records.add(takings::entered(answer));
+        match answer {
+            Answer::Refused { refusal, .. } => self.count_refusal(refusal),
+            _ => self.taken.add(1),
         }
-        self.mismatches.add_if(!agrees);
     }
 
     fn count_refusal(&mut self, refusal: Refusal) {
@@ -57,6 +54,12 @@ impl Tally {
             Refusal::Full => self.full.add(1),
             _ => {}
         }
+    }
+
+    // Counts a call that did not agree.
+    pub fn count_mismatch(&mut self) {
+        self.calls.add(1);
+        self.mismatches.add(1);
     }
 }
 
@@ -93,11 +96,11 @@ pub fn print_mismatch(
     report: &mut Report<Tally>,
     text: &[u8],
     due: Answer,
-    said: Result<Answer, NoAnswer>,
+    said: usize,
     fault: Fault,
 ) -> io::Result<()> {
-    let (due_refusal, due_record) = refusal_and_record(Ok(due));
-    let (said_refusal, said_record) = refusal_and_record(said);
+    let (due_refusal, due_record) = refusal_and_record(due);
+    let (said_refusal, said_record) = Answer::try_from(said).map_or((0, 0), refusal_and_record);
     let text = Hex(text.get(..120).unwrap_or(text));
     writeln!(
         report.out,
@@ -106,10 +109,9 @@ pub fn print_mismatch(
 }
 
 // The refusal's number, 0 for none, and the record that is refused, or how many went in.
-fn refusal_and_record(said: Result<Answer, NoAnswer>) -> (usize, usize) {
-    match said {
-        Ok(Answer::Refused { refusal, record }) => (refusal.number(), record),
-        Ok(Answer::Taken(records)) => (0, records),
-        _ => (0, 0),
+fn refusal_and_record(answer: Answer) -> (usize, usize) {
+    match answer {
+        Answer::Refused { refusal, record } => (refusal.number(), record),
+        other => (0, takings::entered(other)),
     }
 }

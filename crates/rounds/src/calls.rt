@@ -2,30 +2,36 @@
 use crate::indexes::{Hub, Index, Page};
 use comparisons::Request;
 use images::memory::Image;
-use images::packing::{Answer, NoAnswer};
+use images::packing::Answer;
+use reports::faults::Fault;
 use samples::calls::Call;
 
-// Makes a call on an image's memory.
-pub fn make(image: &mut Image, request: Request) -> Result<Answer, NoAnswer> {
-    if image.is_page() {
+// Makes a call on an image's memory; its answer, where the number that it gives is one.
+pub fn make(image: &mut Image, request: Request) -> Result<Answer, Fault> {
+    answer(if image.is_page() {
         make_on::<Page>(image, request)
     } else {
         make_on::<Hub>(image, request)
-    }
+    })
 }
 
-fn make_on<I: Index>(image: &mut Image, request: Request) -> Result<Answer, NoAnswer> {
+// The answer that a number is.
+pub fn answer(said: usize) -> Result<Answer, Fault> {
+    Answer::try_from(said).map_err(|_| Fault::Answer)
+}
+
+fn make_on<I: Index>(image: &mut Image, request: Request) -> usize {
     match request.call {
         Call::Listing => list::<I>(image),
         Call::View => put_view::<I>(image, request.number),
         _ => match image.table_and_store_mut() {
-            Some((table, store)) => Answer::try_from(on_label::<I>(table, store, request)),
-            None => Err(NoAnswer(0)),
+            Some((table, store)) => on_label::<I>(table, store, request),
+            None => 0,
         },
     }
 }
 
-// Makes any other call but a save and a load; the answer in one number.
+// Makes any other call but a save and a load.
 fn on_label<I: Index>(table: &mut [u16], store: &mut [u8], request: Request) -> usize {
     let Request {
         call,
@@ -46,18 +52,18 @@ fn on_label<I: Index>(table: &mut [u16], store: &mut [u8], request: Request) -> 
 }
 
 // Makes a listing into the first words of the list.
-fn list<I: Index>(image: &mut Image) -> Result<Answer, NoAnswer> {
+fn list<I: Index>(image: &mut Image) -> usize {
     let mut list = image.list;
     let said = match (image.table_and_store(), list.get_mut(..image.lent.room)) {
-        (Some((table, store)), Some(list)) => Answer::try_from(I::listing(table, store, list)),
-        _ => Err(NoAnswer(0)),
+        (Some((table, store)), Some(list)) => I::listing(table, store, list),
+        _ => 0,
     };
     image.list = list;
     said
 }
 
 // Puts the view's bytes, which come from the index itself, into the list.
-fn put_view<I: Index>(image: &mut Image, slot: usize) -> Result<Answer, NoAnswer> {
+fn put_view<I: Index>(image: &mut Image, slot: usize) -> usize {
     let mut list = image.list;
     let said = match image.table_and_store() {
         Some((table, store)) => {
@@ -65,9 +71,9 @@ fn put_view<I: Index>(image: &mut Image, slot: usize) -> Result<Answer, NoAnswer
             for (word, byte) in list.iter_mut().zip(part.iter()) {
                 *word = u16::from(*byte);
             }
-            Ok(Answer::Viewed(part.len()))
+            usize::from(Answer::Viewed(part.len()))
         }
-        None => Err(NoAnswer(0)),
+        None => 0,
     };
     image.list = list;
     said

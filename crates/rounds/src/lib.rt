@@ -9,7 +9,7 @@ pub mod states;
 
 use comparisons::{Request, answers, judged};
 use images::memory::Image;
-use images::packing::{Answer, NoAnswer};
+use images::packing::Answer;
 use plainmap::PlainMap;
 use reports::Round;
 use reports::faults::Fault;
@@ -21,12 +21,8 @@ pub fn made(image: &mut Image, map: &mut PlainMap, request: Request) -> Round {
     let said = calls::make(image, request);
     let plain = answers::on_map(map, request);
     Round {
-        agrees: compare(&found, image, map, request, shared, said, plain),
-        said,
-        reached: match said {
-            Ok(answer) => answers::reached(&found, request.label, shared, answer),
-            Err(_) => false,
-        },
+        said: compare(&found, image, map, request, shared, said, plain),
+        reached: said.is_ok_and(|said| answers::reached(&found, request.label, shared, said)),
     }
 }
 
@@ -36,12 +32,13 @@ fn compare(
     map: &PlainMap,
     request: Request,
     shared: usize,
-    said: Result<Answer, NoAnswer>,
+    said: Result<Answer, Fault>,
     plain: Answer,
-) -> Result<(), Fault> {
-    let said = said.map_err(|_| Fault::Answer)?;
+) -> Result<Answer, Fault> {
+    let said = said?;
     answers::compare(found, request, shared, said, plain)?;
-    states::compare(found, left, map, request.call, said)
+    states::compare(found, left, map, request.call, said)?;
+    Ok(said)
 }
 
 // Makes any call on any memory, which stays, and compares the answer and what is left with the second writing's; where
@@ -51,11 +48,18 @@ pub fn tried(image: &Image, request: Request) -> Round {
     let mut left = *image;
     let said = calls::make(&mut left, request);
     Round {
-        agrees: match said {
-            Ok(answer) => judged::compare(image, &left, request, answer),
-            Err(_) => Err(Fault::Answer),
-        },
-        said,
+        said: judge(image, &left, request, said),
         reached: false,
     }
+}
+
+fn judge(
+    found: &Image,
+    left: &Image,
+    request: Request,
+    said: Result<Answer, Fault>,
+) -> Result<Answer, Fault> {
+    let said = said?;
+    judged::compare(found, left, request, said)?;
+    Ok(said)
 }

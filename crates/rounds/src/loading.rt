@@ -1,9 +1,9 @@
 // Loads of a file into the memory that an image holds, compared with the file read apart, and with the table and store
 // that the public inserts of its labels leave.
-use crate::states;
+use crate::{calls, states};
 use comparisons::loads;
 use images::memory::Image;
-use images::packing::{Answer, NoAnswer};
+use images::packing::Answer;
 use plainmap::{Entry, PlainMap};
 use reports::Round;
 use reports::faults::{Fault, ensure};
@@ -15,8 +15,7 @@ pub fn made(image: &mut Image, file: &[u8], map: &mut PlainMap) -> Round {
     let due = loads::judge(image, file, map);
     let said = make(image, file);
     Round {
-        agrees: compare(&found, image, map, due, said),
-        said,
+        said: compare(&found, image, map, due, said),
         reached: false,
     }
 }
@@ -27,13 +26,15 @@ fn compare(
     left: &Image,
     map: &PlainMap,
     due: Answer,
-    said: Result<Answer, NoAnswer>,
-) -> Result<(), Fault> {
-    ensure(said == Ok(due), Fault::Answer)?;
-    match due {
-        Answer::Loaded(_) => compare_loaded(found, left, map),
-        _ => ensure(found == left, Fault::Memory),
+    said: usize,
+) -> Result<Answer, Fault> {
+    ensure(calls::answer(said)? == due, Fault::Answer)?;
+    if matches!(due, Answer::Loaded(_)) {
+        compare_loaded(found, left, map)?;
+    } else {
+        ensure(found == left, Fault::Memory)?;
     }
+    Ok(due)
 }
 
 // Compares what a load left with what the inserts into an empty table leave, then with the map.
@@ -44,10 +45,10 @@ fn compare_loaded(found: &Image, left: &Image, map: &PlainMap) -> Result<(), Fau
     states::compare_map(left, map)
 }
 
-fn make(image: &mut Image, file: &[u8]) -> Result<Answer, NoAnswer> {
+fn make(image: &mut Image, file: &[u8]) -> usize {
     match image.table_and_store_mut() {
-        Some((table, store)) => Answer::try_from(exports::strap_load(table, store, file)),
-        None => Err(NoAnswer(0)),
+        Some((table, store)) => exports::strap_load(table, store, file),
+        None => 0,
     }
 }
 
@@ -59,15 +60,16 @@ fn insert_all(image: &mut Image, map: &PlainMap) -> bool {
     }
 }
 
+// A map of a file's labels has them in the slots from 1 on.
 fn fill(table: &mut [u16], store: &mut [u8], map: &PlainMap) -> bool {
-    let mut done = Answer::try_from(exports::strap_layout(table, store)) == Ok(Answer::Done);
+    let mut done = exports::strap_layout(table, store) == usize::from(Answer::Done);
     for entry in map.entries() {
         done = insert(table, store, entry) && done;
     }
     done
 }
 
-// Inserts a label of the map; whether it takes its slot there.
+// Inserts a label; whether it takes the slot that the map has it in.
 fn insert(table: &mut [u16], store: &mut [u8], entry: &Entry) -> bool {
     let said = exports::strap_insert(table, store, entry.label.as_slice(), entry.value);
     match Answer::try_from(said) {

@@ -1,10 +1,11 @@
 // Saves of the memory that an image holds, compared with the file of a map. Table and store are lent to be read alone,
 // and the image stays: what can differ is the output.
+use crate::calls;
 use comparisons::saves;
 use images::memory::Image;
 use images::outputs;
 use images::outputs::Output;
-use images::packing::{Answer, NoAnswer};
+use images::packing::Answer;
 use plainmap::PlainMap;
 use reports::Round;
 use reports::faults::Fault;
@@ -17,15 +18,23 @@ pub fn made(image: &Image, map: &PlainMap, room: usize) -> Round {
 
 // The same, and leaves the output, which is fresh before.
 pub fn into(image: &Image, map: &PlainMap, output: &mut Output, room: usize) -> Round {
-    let said = make(image, output, room);
+    let said = calls::answer(make(image, output, room));
     Round {
-        agrees: match said {
-            Ok(answer) => saves::compare(image, map, output, room, answer),
-            Err(_) => Err(Fault::Answer),
-        },
-        said,
+        said: compare(image, map, output, room, said),
         reached: false,
     }
+}
+
+fn compare(
+    image: &Image,
+    map: &PlainMap,
+    output: &Output,
+    room: usize,
+    said: Result<Answer, Fault>,
+) -> Result<Answer, Fault> {
+    let said = said?;
+    saves::compare(image, map, output, room, said)?;
+    Ok(said)
 }
 
 // Makes a save that is to leave an output as another save left one.
@@ -33,16 +42,14 @@ pub fn again(image: &Image, map: &PlainMap, before: &Output) -> Round {
     let mut output = outputs::fresh();
     let mut round = into(image, map, &mut output, outputs::ALL);
     if *before != output {
-        round.agrees = Err(Fault::Output);
+        round.said = Err(Fault::Output);
     }
     round
 }
 
-fn make(image: &Image, output: &mut Output, room: usize) -> Result<Answer, NoAnswer> {
+fn make(image: &Image, output: &mut Output, room: usize) -> usize {
     match (image.table_and_store(), output.get_mut(..room)) {
-        (Some((table, store)), Some(output)) => {
-            Answer::try_from(exports::strap_save(table, store, output))
-        }
-        _ => Err(NoAnswer(0)),
+        (Some((table, store)), Some(output)) => exports::strap_save(table, store, output),
+        _ => 0,
     }
 }

@@ -28,9 +28,9 @@ pub fn compare_map(left: &Image, map: &PlainMap) -> Result<(), Fault> {
 
 fn compare_calls(left: &Image, map: &PlainMap) -> Result<(), Fault> {
     let mut copy = *left;
-    let listed = calls::make(&mut copy, Request::bare(Call::Listing));
+    let listed = calls::make(&mut copy, Request::bare(Call::Listing))?;
     ensure(
-        listed == Ok(Answer::Listed(map.held())) && comparisons::states::list_agrees(&copy, map),
+        listed == Answer::Listed(map.held()) && comparisons::states::list_agrees(&copy, map),
         Fault::Listing,
     )?;
     match left.table_and_store() {
@@ -41,8 +41,10 @@ fn compare_calls(left: &Image, map: &PlainMap) -> Result<(), Fault> {
 }
 
 fn compare_reads<I: Index>(table: &[u16], store: &[u8], map: &PlainMap) -> Result<(), Fault> {
-    let checked = Answer::try_from(I::check(table, store));
-    ensure(checked == Ok(Answer::Done), Fault::Check)?;
+    ensure(
+        I::check(table, store) == usize::from(Answer::Done),
+        Fault::Check,
+    )?;
     for entry in map.entries() {
         let view = I::view(table, store, entry.slot);
         ensure(view == entry.label.as_slice(), Fault::View)?;

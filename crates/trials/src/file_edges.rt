@@ -3,6 +3,7 @@
 use crate::{loading, saving, sequences};
 use images::memory::Image;
 use images::outputs;
+use images::packing::Answer;
 use images::refusals::Refusal;
 use plainmap::PlainMap;
 use plans::files::{Edge, Group};
@@ -117,11 +118,11 @@ fn as_due(round: Round, bytes: usize, room: usize) -> Round {
     if bytes > room {
         return sequences::as_due(round, Due::Refused(Refusal::ShortOutput));
     }
-    if round.written() == bytes {
-        return round;
-    }
-    Round {
-        agrees: Err(Fault::Written),
-        ..round
+    match round.said {
+        Ok(said) if said != Answer::Saved(bytes) => Round {
+            said: Err(Fault::Written),
+            ..round
+        },
+        _ => round,
     }
 }

@@ -4,6 +4,7 @@ use crate::{saving, sequences};
 use images::memory::Image;
 use images::outputs;
 use images::outputs::Output;
+use images::packing::Answer;
 use images::refusals::Refusal;
 use plainmap::PlainMap;
 use plans::lengths;
@@ -37,16 +38,13 @@ fn saved(report: &mut Report<Tally>, image: &Image, map: &PlainMap) -> io::Resul
     let mut file = outputs::fresh();
     let round = rounds::saving::into(image, map, &mut file, outputs::ALL);
     saving::count(report, round)?;
+    let n = match round.said {
+        Ok(Answer::Saved(n)) => n,
+        _ => 0,
+    };
     let mut copy = *image;
     let mut loaded = PlainMap::new(0, 0);
-    into(
-        report,
-        &mut copy,
-        &file,
-        round.written(),
-        Due::Done,
-        &mut loaded,
-    )?;
+    into(report, &mut copy, &file, n, Due::Done, &mut loaded)?;
     saving::count(report, rounds::saving::again(&copy, &loaded, &file))
 }
 

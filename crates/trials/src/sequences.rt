@@ -81,11 +81,11 @@ pub fn numbered(
 
 // A round of a call of which something was to come: where another thing did, that is its fault.
 pub fn as_due(round: Round, due: Due) -> Round {
-    if due.allows(round.refusal()) {
-        return round;
-    }
-    Round {
-        agrees: Err(Fault::Case),
-        ..round
+    match round.said {
+        Ok(said) if !due.allows(said.refusal()) => Round {
+            said: Err(Fault::Case),
+            ..round
+        },
+        _ => round,
     }
 }
