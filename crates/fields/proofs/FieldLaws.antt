@@ -6,13 +6,13 @@ use Prim.Native.Nat.{ℕ, zero, suc, max}
 use mathlib.Core.Path.{◌≡◌, refl, sym, ap, ◌∙◌}
 use mathlib.Core.Logic.{◌≢◌}
 use mathlib.Core.List.{List}
+use Rattle.std.specs.declared.cmp.Ordering.{Ordering}
+use Rattle.std.specs.declared.cmp.Ordering.TheVariants.{Less, Equal, Greater}
 use Rattle.types.specs.declared.Limits.{Limits}
 use Rattle.labels.specs.Labels.{Label, compare_labels, compare_from, place_of, difference_place}
 use Rattle.labels.specs.Neighbours.{held, difference}
 use Rattle.tables.specs.Words.{entry_at}
 use Rattle.tables.specs.Prefix.{side_by}
-use Rattle.orders.specs.declared.Order.{Order}
-use Rattle.orders.specs.declared.Order.TheVariants.{Smaller, Same, Larger}
 use Rattle.compares.specs.declared.Compared.{Compared}
 use Rattle.orders.specs.Orders.{comparison_by}
 use Rattle.compares.specs.Compares.{comparison_of}
@@ -20,10 +20,10 @@ use Rattle.gaps.specs.Windows.{below_in, above_in}
 use Rattle.fields.specs.declared.Fields.{Fields}
 use Rattle.fields.specs.Between.{fields_between}
 
-place_of_order : (order : Order) (place : ℕ) → place_of (comparison_by order place) ≡ place
-place_of_order Smaller place = refl
-place_of_order Same place = refl
-place_of_order Larger place = refl
+place_of_order : (order : Ordering) (place : ℕ) → place_of (comparison_by order place) ≡ place
+place_of_order Less place = refl
+place_of_order Equal place = refl
+place_of_order Greater place = refl
 
 -- A comparison from place 1 ends at the difference place.
 pub place_of_compared : (x y : Label) (r : Compared) → comparison_of r ≡ compare_from 1 x y

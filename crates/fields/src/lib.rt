@@ -33,8 +33,7 @@ pub fn difference_place(x: &[u8], y: &[u8]) -> u16
     requires { length y.now ≤ 4096 }
     ensures { result ≡ difference_place x.now y.now }
 {
-    let compared = eights::compare(x, y, 1);
-    compared.place as u16
+    eights::compare(x, y, 1).place as u16
 }
 
 // The difference place of a label with the node in the slot below, 0 for none.
