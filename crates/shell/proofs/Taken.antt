@@ -1,16 +1,13 @@
 -- The bytes of an input as they come, and its end.
 --     fresh_laid                  what layout left is the fresh table
 --     took_end, took_byte         what a byte makes of what was said and kept
---     takes_on, takes_last        the bytes of a read, one after the other
 --     ended_begun, ended_unbegun  the input's end
 use mathlib.Core.Path.{◌≡◌, refl, sym, ap, ◌∙◌}
 use mathlib.Core.List.{List, [], ◌∷◌, append-nil}
-use Prim.Native.Nat.{ℕ, ◌+◌, ◌≤◌, ◌<◌}
-use native.Mathlib.Numerals.{add-one}
+use Prim.Native.Nat.{ℕ, ◌≤◌, ◌<◌}
 use native.Mathlib.Omega.{arith}
 use borrow.Author.Tests.{ne_eqb}
-use lib.ListN.{length, drop, get_or, drop_of_length-le}
-use lib.Seq.{drop-cons}
+use lib.ListN.{length}
 use Rattle.types.specs.Sizes.{hub, table_length, store_length}
 use Rattle.types.specs.Answers.{Answer}
 use Rattle.tables.specs.Written.{Memory, lent}
@@ -18,7 +15,7 @@ use Rattle.tables.specs.Outcomes.{layout_outcome}
 use Rattle.tables.specs.Given.{Gives}
 use Rattle.lines.specs.Commands.{asks}
 use Rattle.inputs.specs.Inputs.{reply_to, fresh}
-use Rattle.inputs.specs.Reads.{Shell, Progress, kept, replied, next, after, ended}
+use Rattle.inputs.specs.Reads.{Shell, Progress, kept, replied, next, ended}
 use Rattle.inputs.proofs.Fresh.{layout_is_fresh}
 use Rattle.shell.specs.Shells.{progress_of, Says}
 
@@ -43,17 +40,6 @@ module _ (s t : Shell) (before : List ℕ) (byte : ℕ) where
   took_byte other keeps =
       rw (ne_eqb byte 10 other)
       (record { says = λ i. progress_of (keeps i) before; room = omega arith })
-
--- of the bytes those from place i on are still to be taken
-module _ (bytes : List ℕ) (i : ℕ) (p all : Progress) (so_far : after p (drop i bytes) ≡ all) where
-  -- the next one is taken
-  pub takes_on : (later : Progress) → i < length bytes → later ≡ next p (get_or bytes i 0)
-      → after later (drop (i + 1) bytes) ≡ all
-  takes_on later inside same = rw (same, add-one) (rw (drop-cons bytes i 0 inside) at so_far)
-
-  -- none is left
-  pub takes_last : length bytes ≤ i → p ≡ all
-  takes_last past = rw (drop_of_length-le bytes past) at so_far
 
 begun : (m : Memory) (line : List ℕ) → 0 < length line
     → ended (record { memory = m; line = line }) ≡ reply_to m (asks line)
