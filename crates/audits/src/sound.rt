@@ -3,7 +3,7 @@
 use crate::charges::admit_charge;
 use crate::lengths::admit_label;
 use arrayvec::ArrayVec;
-use images::memory::{Field, Head, Image};
+use images::memory::{Field, Head, Image, number_of};
 use images::refusals::Refusal;
 
 // What is read of a slot: its neighbours above it in the tree, 0 for none; whether it was met; and its height.
@@ -157,8 +157,8 @@ fn label_holds(image: &Image, slot: usize) -> bool {
         && bytes_are_zero(image, slot, len)
 }
 
-// Whether a slot's place and side are those that its difference places with both neighbours give: the larger, of the
-// smaller neighbour's where both are one, and 1 with no neighbour.
+// Whether a slot's place and side are those that its difference places with both neighbours give: the larger place, 1
+// with no neighbour, on the larger neighbour's side where that place is larger.
 fn prefix_holds(image: &Image, slot: usize, before: usize, after: usize) -> bool {
     image.field(slot, Field::Place) == before.max(after).max(1)
         && image.field(slot, Field::Side) == usize::from(after > before)
@@ -171,17 +171,15 @@ fn difference(image: &Image, one: usize, other: usize) -> usize {
     }
     let (a, b) = (image.label(one), image.label(other));
     let shared = a.len().min(b.len());
-    let unlike = a.iter().zip(b.iter()).position(|(x, y)| unlike(*x, *y));
+    let unlike = a
+        .iter()
+        .zip(b.iter())
+        .position(|(x, y)| number_of(*x) != number_of(*y));
     match unlike {
         Some(i) => i.wrapping_add(1),
         None if a.len() == b.len() => 0,
         None => shared.wrapping_add(1),
     }
-}
-
-// Whether two bytes are neither the same nor one letter in either case.
-fn unlike(one: u8, other: u8) -> bool {
-    one.to_ascii_lowercase() != other.to_ascii_lowercase()
 }
 
 // Whether a slot's label is below another's, by their difference place; a missing neighbour, slot 0, is below and

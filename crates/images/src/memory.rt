@@ -162,11 +162,10 @@ impl Image {
         part.get(..self.field(slot, Field::Length)).unwrap_or(part)
     }
 
-    // The number at a place of a slot's label: 0 past its end, the byte plus 33 for A to Z, and plus 1 for any other.
+    // The number at a place of a slot's label: its byte's, and 0 past its end.
     pub fn number_at(&self, slot: usize, place: usize) -> usize {
         match place.checked_sub(1).and_then(|i| self.label(slot).get(i)) {
-            Some(capital @ b'A'..=b'Z') => usize::from(*capital) + 33,
-            Some(other) => usize::from(*other) + 1,
+            Some(byte) => number_of(*byte),
             None => 0,
         }
     }
@@ -202,6 +201,14 @@ impl Image {
     pub fn table_and_store_mut(&mut self) -> Option<(&mut [u16], &mut [u8])> {
         let lent = self.lent;
         first_of_both(&mut self.words, &mut self.store, lent)
+    }
+}
+
+// The number of a byte: the byte plus 33 for A to Z, and plus 1 for any other.
+pub fn number_of(byte: u8) -> usize {
+    match byte {
+        b'A'..=b'Z' => usize::from(byte) + 33,
+        _ => usize::from(byte) + 1,
     }
 }
 
