@@ -8,7 +8,7 @@ use Rattle.tables.specs.Words.{root_link, labels_held}
 use Rattle.turns.specs.Turns.{Turned}
 use Rattle.paths.specs.Paths.{delete_along, rooted}
 use Rattle.traces.specs.declared.Trace.{Trace}
-use Rattle.fields.specs.declared.Fields.{Fields}
+use Rattle.sides.specs.declared.Fields.{Fields}
 use Rattle.slots.specs.Slots.{after_freed, with_count}
 use Rattle.deletions.specs.Deletions.{ready_to_delete, deleted_table}
 

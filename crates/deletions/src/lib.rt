@@ -8,7 +8,7 @@ ghost use Rattle.fields.specs.Fits.{RowsFit};
 ghost use Rattle.slots.specs.Slots.{after_freed, with_count, without_label};
 ghost use Rattle.deletions.specs.Deletions.{ready_to_delete, deleted_table};
 
-use fields::Fields;
+use sides::Fields;
 use traces::Trace;
 use types::Limits;
 
@@ -28,15 +28,7 @@ pub fn take_out(limits: Limits, table: &mut [u16], root: u16, trace: Trace, next
         (delete_along trace.length trace.path limits.depth table.old root
         next.place next.side) }
 {
-    let top = paths::delete_along(
-        table,
-        trace.length,
-        trace.path,
-        limits.depth,
-        root,
-        next.place,
-        next.side,
-    );
+    let top = paths::delete_along(table, trace.length, trace.path, limits.depth, root, next);
     paths::rooted(table, top);
 }
 

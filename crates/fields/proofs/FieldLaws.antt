@@ -17,7 +17,7 @@ use Rattle.compares.specs.declared.Compared.{Compared}
 use Rattle.orders.specs.Orders.{comparison_by}
 use Rattle.compares.specs.Compares.{comparison_of}
 use Rattle.gaps.specs.Windows.{below_in, above_in}
-use Rattle.fields.specs.declared.Fields.{Fields}
+use Rattle.sides.specs.declared.Fields.{Fields}
 use Rattle.fields.specs.Between.{fields_between}
 
 place_of_order : (order : Ordering) (place : ℕ) → place_of (comparison_by order place) ≡ place

@@ -5,7 +5,7 @@ use Rattle.labels.specs.Neighbours.{held, difference}
 use Rattle.tables.specs.Words.{entry_at}
 use Rattle.tables.specs.Prefix.{side_by}
 use Rattle.gaps.specs.Windows.{below_in, above_in}
-use Rattle.fields.specs.declared.Fields.{Fields}
+use Rattle.sides.specs.declared.Fields.{Fields}
 
 abbrev pub no_fields : Fields
 no_fields = record { place = 0; side = 0 }

@@ -10,14 +10,8 @@ ghost use Rattle.gaps.specs.Windows.{below_in, above_in};
 ghost use Rattle.fields.specs.Fits.{RowsFit};
 ghost use Rattle.fields.specs.Between.{fields_between};
 
+use sides::Fields;
 use types::Limits;
-
-// The prefix fields of a node between its neighbours.
-#[derive(Clone, Copy)]
-pub struct Fields {
-    pub place: u16,
-    pub side: u16,
-}
 
 // The label of the node in a slot.
 pub fn label_in<'a>(limits: Limits, table: &[u16], store: &'a [u8], slot: u16) -> &'a [u8]

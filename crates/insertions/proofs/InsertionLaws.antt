@@ -15,7 +15,7 @@ use Rattle.turns.specs.Turns.{Yields}
 use Rattle.paths.specs.Paths.{insert_along, rooted}
 use Rattle.paths.proofs.Rooting.{rooted_after}
 use Rattle.traces.specs.declared.Trace.{Trace}
-use Rattle.fields.specs.declared.Fields.{Fields}
+use Rattle.sides.specs.declared.Fields.{Fields}
 use Rattle.slots.specs.Slots.{slot_taken, with_root_place}
 use Rattle.fields.specs.Between.{no_fields}
 use Rattle.insertions.specs.Insertions.{leaf_fields, with_leaf, inserted_table}

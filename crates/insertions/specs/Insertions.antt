@@ -10,7 +10,7 @@ use Rattle.tables.specs.Written.{Memory}
 use Rattle.words.specs.Rows.{put_row}
 use Rattle.paths.specs.Paths.{insert_along, rooted}
 use Rattle.traces.specs.declared.Trace.{Trace}
-use Rattle.fields.specs.declared.Fields.{Fields}
+use Rattle.sides.specs.declared.Fields.{Fields}
 use Rattle.slots.specs.Slots.{slot_taken, after_taken, with_count, with_root_place, with_label}
 
 -- a new leaf's place: the larger of P and S, but 0 at the root

@@ -9,7 +9,7 @@ ghost use Rattle.insertions.specs.Fits.{EndsFit, CanGrow, CanInsert};
 ghost use Rattle.slots.specs.Slots.{slot_taken, after_taken, with_count, with_label};
 ghost use Rattle.insertions.specs.Insertions.{leaf_fields, leaf_row, with_leaf, inserted_table};
 
-use fields::Fields;
+use sides::Fields;
 use traces::Trace;
 use types::{Limits, Row};
 use words::charge::UNKNOWN;

@@ -8,7 +8,7 @@ ghost use Rattle.turns.specs.Turns.{Yields};
 ghost use Rattle.slots.specs.Slots.{with_root_place};
 ghost use Rattle.paths.specs.Paths.{flip_of, insert_along, Pops, pop_least, put_least, cut, delete_along};
 
-use sides::rows;
+use sides::{Fields, rows};
 use turns::{Rebuilt, rotate};
 
 // A subtree without its smallest node, and that node's slot.
@@ -73,8 +73,8 @@ pub fn pop_least(table: &mut [u16], height: usize, c: u16) -> Popped
 }
 
 // Puts the smallest node of the right subtree in the place of c, with its prefix fields there.
-pub fn put_least(table: &mut [u16], c: u16, least: u16, place: u16, side: u16)
-    ensures { table.new ≡ put_least table.old c least place side }
+pub fn put_least(table: &mut [u16], c: u16, least: u16, fields: Fields)
+    ensures { table.new ≡ put_least table.old c least fields.place fields.side }
 {
     let row = words::total::row_of(table, c);
     let linked = rows::linked_row(
@@ -83,12 +83,12 @@ pub fn put_least(table: &mut [u16], c: u16, least: u16, place: u16, side: u16)
         row.right,
         row.balance,
     );
-    words::total::put_row(table, least, rows::prefixed(linked, place, side));
+    words::total::put_row(table, least, rows::prefixed(linked, fields));
 }
 
 // Takes c out of its subtree. The fields are those of the node that takes its place, where it has two sons.
-pub fn cut(table: &mut [u16], height: usize, c: u16, place: u16, side: u16) -> Rebuilt
-    ensures { Yields (cut height table.old c place side) table.new result }
+pub fn cut(table: &mut [u16], height: usize, c: u16, fields: Fields) -> Rebuilt
+    ensures { Yields (cut height table.old c fields.place fields.side) table.new result }
 {
     let row = words::total::row_of(table, c);
     if row.left == 0 {
@@ -104,7 +104,7 @@ pub fn cut(table: &mut [u16], height: usize, c: u16, place: u16, side: u16) -> R
         };
     }
     let popped = pop_least(table, height, row.right);
-    put_least(table, c, popped.least, place, side);
+    put_least(table, c, popped.least, fields);
     rotate::shrink(table, true, popped.least, popped.rest)
 }
 
@@ -115,17 +115,16 @@ pub fn delete_along(
     path: usize,
     height: usize,
     c: u16,
-    place: u16,
-    side: u16,
+    fields: Fields,
 ) -> Rebuilt
-    ensures { Yields (delete_along length path height table.old c place side) table.new result }
+    ensures { Yields (delete_along length path height table.old c fields.place fields.side) table.new result }
 {
     if length == 0 {
-        return cut(table, height, c, place, side);
+        return cut(table, height, c, fields);
     }
     let flip = flip_of(path);
     let row = rows::row_on(table, flip, c);
-    let deeper = delete_along(table, length - 1, path / 2, height, row.left, place, side);
+    let deeper = delete_along(table, length - 1, path / 2, height, row.left, fields);
     rotate::shrink(table, flip, c, deeper)
 }
 

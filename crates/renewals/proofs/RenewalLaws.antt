@@ -11,7 +11,7 @@ use Rattle.types.specs.declared.Row.{Row}
 use Rattle.tables.specs.Words.{row_at}
 use Rattle.words.specs.Rows.{put_row}
 use Rattle.sides.specs.Rows.{prefixed}
-use Rattle.fields.specs.declared.Fields.{Fields}
+use Rattle.sides.specs.declared.Fields.{Fields}
 use Rattle.fields.specs.Fits.{RowsFit}
 use Rattle.fields.specs.Between.{fields_between}
 use Rattle.renewals.specs.Renewals.{renewed, renewed_son}

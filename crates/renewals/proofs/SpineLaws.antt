@@ -16,7 +16,7 @@ use Rattle.types.specs.declared.Limits.{Limits}
 use Rattle.types.specs.declared.Row.{Row}
 use Rattle.tables.specs.Words.{row_at}
 use Rattle.sides.specs.Rows.{row_on}
-use Rattle.fields.specs.declared.Fields.{Fields}
+use Rattle.sides.specs.declared.Fields.{Fields}
 use Rattle.fields.specs.Between.{fields_between}
 use Rattle.renewals.specs.Renewals.{renewed, renewed_spine, least_from, renewed_spines, renewed_son}
 use Rattle.fields.specs.Between.{no_fields}

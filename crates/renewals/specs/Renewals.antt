@@ -4,7 +4,7 @@ use Rattle.types.specs.declared.Limits.{Limits}
 use Rattle.tables.specs.Words.{row_at}
 use Rattle.words.specs.Rows.{put_row}
 use Rattle.sides.specs.Rows.{row_on, prefixed}
-use Rattle.fields.specs.declared.Fields.{Fields}
+use Rattle.sides.specs.declared.Fields.{Fields}
 use Rattle.fields.specs.Between.{fields_between, no_fields}
 
 unfoldable pub renewed : Limits → (table store : List ℕ) → (slot below above : ℕ) → List ℕ

@@ -8,7 +8,7 @@ ghost use Rattle.fields.specs.Between.{fields_between};
 ghost use Rattle.renewals.specs.Renewals.{renewed, renewed_spine, least_from, renewed_spines};
 ghost use Rattle.renewals.specs.Renewals.{renewed_son, renewed_around};
 
-use fields::Fields;
+use sides::Fields;
 use types::Limits;
 
 // Renews the prefix fields of the node in a slot.
@@ -19,11 +19,7 @@ pub fn renew(limits: Limits, table: &mut [u16], store: &[u8], slot: u16, below: 
 {
     let fields = fields::between(limits, table, store, slot, below, above);
     let row = words::total::row_of(table, slot);
-    words::total::put_row(
-        table,
-        slot,
-        sides::rows::prefixed(row, fields.place, fields.side),
-    );
+    words::total::put_row(table, slot, sides::rows::prefixed(row, fields));
 }
 
 // Renews the node in a slot between the nodes in the slots outer and least: least above, or below where flipped.

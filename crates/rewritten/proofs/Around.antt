@@ -22,7 +22,7 @@ use Rattle.rotations.proofs.Along.{RepHole, place_of_next, side_of_next}
 use Rattle.rotations.proofs.Frames.{own_slot}
 use Rattle.rotations.proofs.Pops.{occurrences_of_rest}
 use Rattle.rotations.proofs.Stays.{rep_apart}
-use Rattle.fields.specs.declared.Fields.{Fields}
+use Rattle.sides.specs.declared.Fields.{Fields}
 use Rattle.fields.specs.Between.{fields_between}
 use Rattle.renewals.specs.Renewals.{renewed_spine, least_from, renewed_spines, renewed_son}
 use Rattle.fields.specs.Between.{no_fields}

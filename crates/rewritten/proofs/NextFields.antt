@@ -17,7 +17,7 @@ use Rattle.rotations.proofs.Rep.{Stands, flip_on}
 use Rattle.rotations.proofs.Along.{sides_by, sides_to, towards, RepWithout, place_of_next, side_of_next, right_of}
 use Rattle.rotations.proofs.Bits.{flip_of_path, rest_of_path}
 use Rattle.rotations.proofs.Levels.{near_link}
-use Rattle.fields.specs.declared.Fields.{Fields}
+use Rattle.sides.specs.declared.Fields.{Fields}
 use Rattle.rewritten.proofs.Around.{FieldsFor}
 use Rattle.rewritten.proofs.Readied.{left_of, RepBy}
 

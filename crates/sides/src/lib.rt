@@ -8,9 +8,16 @@ pub mod rotated;
 pub mod rows;
 
 // The balances of the three nodes of a double rotation, in label order.
-#[derive(Clone, Copy)]
+#[derive(Clone, Copy, Debug, PartialEq, Eq)]
 pub struct Balances {
     pub lower: u16,
     pub middle: u16,
     pub upper: u16,
+}
+
+// The prefix fields of a node.
+#[derive(Clone, Copy, Debug, PartialEq, Eq)]
+pub struct Fields {
+    pub place: u16,
+    pub side: u16,
 }

@@ -3,9 +3,10 @@ ghost use Rattle.std.specs.Prelude.{◌≡◌};
 ghost use Rattle.sides.specs.Rows.{mirrored, flipped, row_on, put_on, linked_row, prefixed};
 ghost use Rattle.sides.specs.Rows.{to_parent, exchanges, raised, lowered};
 
+use crate::Fields;
 use types::Row;
 
-// The word of a balance.
+// The word of a balance: a number of the table's format, which any word may hold, so no enum.
 pub const LEFT_TALLER: u16 = 0;
 
 pub const EVEN: u16 = 1;
@@ -16,13 +17,11 @@ pub const RIGHT_TALLER: u16 = 2;
 pub fn mirrored(balance: u16) -> u16
     ensures { result ≡ mirrored balance }
 {
-    if balance == LEFT_TALLER {
-        return RIGHT_TALLER;
+    match balance {
+        LEFT_TALLER => RIGHT_TALLER,
+        RIGHT_TALLER => LEFT_TALLER,
+        _ => balance,
     }
-    if balance == RIGHT_TALLER {
-        return LEFT_TALLER;
-    }
-    balance
 }
 
 // A row with its sides exchanged, where `flip` says so.
@@ -33,12 +32,8 @@ pub fn flip_row(flip: bool, row: Row) -> Row
         Row {
             left: row.right,
             right: row.left,
-            place: row.place,
-            side: row.side,
             balance: mirrored(row.balance),
-            len: row.len,
-            value: row.value,
-            charge: row.charge,
+            ..row
         }
     } else {
         row
@@ -66,28 +61,19 @@ pub fn linked_row(node: Row, left: u16, right: u16, balance: u16) -> Row
     Row {
         left,
         right,
-        place: node.place,
-        side: node.side,
         balance,
-        len: node.len,
-        value: node.value,
-        charge: node.charge,
+        ..node
     }
 }
 
 // A row with other prefix fields.
-pub fn prefixed(row: Row, place: u16, side: u16) -> Row
-    ensures { result ≡ prefixed row place side }
+pub fn prefixed(row: Row, fields: Fields) -> Row
+    ensures { result ≡ prefixed row fields.place fields.side }
 {
     Row {
-        left: row.left,
-        right: row.right,
-        place,
-        side,
-        balance: row.balance,
-        len: row.len,
-        value: row.value,
-        charge: row.charge,
+        place: fields.place,
+        side: fields.side,
+        ..row
     }
 }
 
@@ -104,19 +90,8 @@ pub fn to_parent(flip: bool) -> u16
 pub fn exchanges(flip: bool, parent: Row, son: Row) -> bool
     ensures { result ≡ exchanges flip parent son }
 {
-    if son.side != to_parent(flip) {
-        return false;
-    }
-    if parent.place < son.place {
-        return true;
-    }
-    if son.place < parent.place {
-        return false;
-    }
-    if flip {
-        return parent.side != 0;
-    }
-    true
+    son.side == to_parent(flip)
+        && (parent.place < son.place || (parent.place == son.place && (!flip || parent.side != 0)))
 }
 
 // The son's row with the fields that it has above its parent.
@@ -124,7 +99,13 @@ pub fn raised(flip: bool, parent: Row, son: Row) -> Row
     ensures { result ≡ raised flip parent son }
 {
     if exchanges(flip, parent, son) {
-        prefixed(son, parent.place, parent.side)
+        prefixed(
+            son,
+            Fields {
+                place: parent.place,
+                side: parent.side,
+            },
+        )
     } else {
         son
     }
@@ -135,7 +116,13 @@ pub fn lowered(flip: bool, parent: Row, son: Row) -> Row
     ensures { result ≡ lowered flip parent son }
 {
     if exchanges(flip, parent, son) {
-        prefixed(parent, son.place, to_parent(!flip))
+        prefixed(
+            parent,
+            Fields {
+                place: son.place,
+                side: to_parent(!flip),
+            },
+        )
     } else {
         parent
     }

@@ -9,5 +9,5 @@ returns-then-length-eq0 t c = simp c.if-length-eq0.true c.cut.ensures
 pub returns : goal.returns
 returns t c =
     deleted_below c.args.length c.args.path c.args.height c.args.table.now c.args.c
-    c.args.place c.args.side c.if-length-eq0.false c.flip_of-flip.ensures c.row_on-row.ensures
+    c.args.fields.place c.args.fields.side c.if-length-eq0.false c.flip_of-flip.ensures c.row_on-row.ensures
     c.delete_along-deeper.ensures c.shrink.ensures

@@ -15,6 +15,6 @@ returns-then-row-eq0-2 c = simp (← c.row_of-row.ensures, ne_eqb _ _ c.if-row-e
 
 pub returns : goal.returns
 returns c =
-    cut_moved c.args.height c.args.table.now c.args.c c.args.place c.args.side
+    cut_moved c.args.height c.args.table.now c.args.c c.args.fields.place c.args.fields.side
     c.row_of-row.ensures c.if-row-eq0.false c.if-row-eq0-2.false c.pop_least-popped.ensures c.put_least.ensures
     c.shrink.ensures

@@ -1,35 +1,29 @@
 use borrow.Author.Tests.{eq-eqb, ne_eqb, lt-ltb, le-ltb}
-use native.Mathlib.Omega.{arith}
-use mathlib.Core.Path.{◌≡◌}
-use mathlib.Core.Logic.{◌≢◌}
 use Rattle.sides.specs.Rows.{exchanges}
 use Rattle.sides.proofs.rows.exchanges.Goals as goal
 
-pub returns-then-son-to_parent : goal.returns-then-son-to_parent
-unfolding exchanges
-returns-then-son-to_parent c = simp (← c.to_parent.ensures, ne_eqb _ _ c.if-son-to_parent.true)
-
 pub returns-then-parent-son : goal.returns-then-parent-son
 unfolding exchanges
-returns-then-parent-son c = simp (← c.to_parent.ensures, eq-eqb _ _ c.if-son-to_parent.false, lt-ltb _ _ c.if-parent-son.true)
+returns-then-parent-son c =
+    simp (← c.to_parent.ensures, eq-eqb _ _ c.if-son-to_parent.true, lt-ltb _ _ c.if-parent-son.true)
 
-pub returns-then-son-parent : goal.returns-then-son-parent
+pub returns-else-parent-son-2 : goal.returns-else-parent-son-2
 unfolding exchanges
-returns-then-son-parent c =
-    let apart : c.args.parent.place ≢ c.args.son.place = omega arith in
-    simp (← c.to_parent.ensures, eq-eqb _ _ c.if-son-to_parent.false)
-    (simp (le-ltb _ _ c.if-parent-son.false, ne_eqb _ _ apart))
+returns-else-parent-son-2 c =
+    simp (← c.to_parent.ensures, eq-eqb _ _ c.if-son-to_parent.true, le-ltb _ _ c.if-parent-son.false, ne_eqb _ _ c.if-parent-son-2.false)
 
-pub returns-then-flip : goal.returns-then-flip
+pub returns-else-son-to_parent : goal.returns-else-son-to_parent
 unfolding exchanges
-returns-then-flip c =
-    let tied : c.args.parent.place ≡ c.args.son.place = omega arith in
-    simp (← c.to_parent.ensures, eq-eqb _ _ c.if-son-to_parent.false)
-    (simp (le-ltb _ _ c.if-parent-son.false, eq-eqb _ _ tied, c.if-flip.true))
+returns-else-son-to_parent c = simp (← c.to_parent.ensures, ne_eqb _ _ c.if-son-to_parent.false)
 
-pub returns : goal.returns
+pub returns-then-not-flip : goal.returns-then-not-flip
 unfolding exchanges
-returns c =
-    let tied : c.args.parent.place ≡ c.args.son.place = omega arith in
-    simp (← c.to_parent.ensures, eq-eqb _ _ c.if-son-to_parent.false)
-    (simp (le-ltb _ _ c.if-parent-son.false, eq-eqb _ _ tied, c.if-flip.false))
+returns-then-not-flip c =
+    simp (← c.to_parent.ensures, eq-eqb _ _ c.if-son-to_parent.true)
+    (simp (le-ltb _ _ c.if-parent-son.false, eq-eqb _ _ c.if-parent-son-2.true, c.if-not-flip.true))
+
+pub returns-else-not-flip : goal.returns-else-not-flip
+unfolding exchanges
+returns-else-not-flip c =
+    simp (← c.to_parent.ensures, eq-eqb _ _ c.if-son-to_parent.true)
+    (simp (le-ltb _ _ c.if-parent-son.false, eq-eqb _ _ c.if-parent-son-2.true, c.if-not-flip.false))
