@@ -21,6 +21,7 @@ pub fn reply<const N: usize>(table: &mut [u16], store: &mut [u8], line: &[u8], o
 }
 
 // Does what a line asks, if it asks something.
+#[tactic(auto, unfolding(inputs::specs::Inputs::reply_to))]
 fn ask(table: &mut [u16], store: &mut [u8], line: &[u8]) -> Option<Said>
     ensures { reply_of result table.new store.new
         ≡ reply_to (lent table.old store.old) (asks line.now) }

@@ -1,12 +1,10 @@
--- The bytes of an input as they come, and its end.
+-- The memory that the shell begins with, and the input's end.
 --     fresh_laid                  what layout left is the fresh table
---     took_end, took_byte         what a byte makes of what was said and kept
 --     ended_begun, ended_unbegun  the input's end
 use mathlib.Core.Path.{◌≡◌, refl, sym, ap, ◌∙◌}
 use mathlib.Core.List.{List, [], ◌∷◌, append-nil}
 use Prim.Native.Nat.{ℕ, ◌≤◌, ◌<◌}
 use native.Mathlib.Omega.{arith}
-use borrow.Author.Tests.{ne_eqb}
 use lib.ListN.{length}
 use Rattle.types.specs.Sizes.{hub, table_length, store_length}
 use Rattle.types.specs.Answers.{Answer}
@@ -15,9 +13,9 @@ use Rattle.tables.specs.Outcomes.{layout_outcome}
 use Rattle.tables.specs.Given.{Gives}
 use Rattle.lines.specs.Commands.{asks}
 use Rattle.inputs.specs.Inputs.{reply_to, fresh}
-use Rattle.inputs.specs.Reads.{Shell, Progress, kept, replied, next, ended}
+use Rattle.inputs.specs.Reads.{Shell, Progress, replied, ended}
 use Rattle.inputs.proofs.Fresh.{layout_is_fresh}
-use Rattle.shell.specs.Shells.{progress_of, Says}
+use Rattle.shell.specs.Shells.{progress_of}
 
 -- what layout left is the fresh table
 pub fresh_laid : (table store words bytes : List ℕ) (answer : Answer) → length table ≡ table_length hub
@@ -25,21 +23,6 @@ pub fresh_laid : (table store words bytes : List ℕ) (answer : Answer) → leng
     → lent words bytes ≡ fresh
 fresh_laid table store words bytes answer table_is store_is gives =
     (λ i. record { table = gives.table i; store = gives.store i }) ∙ layout_is_fresh table store table_is store_is
-
-module _ (s t : Shell) (before : List ℕ) (byte : ℕ) where
-  -- a byte 10 has the line answered
-  pub took_end : (out : List ℕ) → byte ≡ 10 → Says before (replied before (reply_to s.memory (asks s.line))) t out
-      → Says before (next (progress_of s before) byte) t out
-  unfolding next
-  took_end out is says = rw is says
-
-  -- any other byte is kept
-  pub took_byte : (byte ≡ 10 → ⊥) → t ≡ record { memory = s.memory; line = kept s.line byte }
-      → Says before (next (progress_of s before) byte) t before
-  unfolding next
-  took_byte other keeps =
-      rw (ne_eqb byte 10 other)
-      (record { says = λ i. progress_of (keeps i) before; room = omega arith })
 
 begun : (m : Memory) (line : List ℕ) → 0 < length line
     → ended (record { memory = m; line = line }) ≡ reply_to m (asks line)

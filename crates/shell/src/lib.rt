@@ -72,6 +72,7 @@ impl Shell {
     }
 
     // Takes a byte: a byte 10 ends the line, which is answered, and any other is kept.
+    #[tactic(auto, unfolding(inputs::specs::Reads::next))]
     fn take_byte<const N: usize>(&mut self, byte: u8, out: &mut Text<N>)
         requires { length out.old + 96 ≤ N }
         ensures { Says out.old (next (progress_of self.old out.old) byte) self.new out.new }
