@@ -60,12 +60,12 @@ impl Shell {
     }
 
     // The input's end: answers the line that has begun, if it has a byte.
+    #[tactic(auto, unfolding(inputs::specs::Reads::ended))]
     pub fn finish<const N: usize>(&mut self, out: &mut Text<N>)
         requires { length out.old + 96 ≤ N }
         ensures { progress_of self.new out.new ≡ replied out.old (ended self.old) }
     {
-        let len = self.line.bytes().len();
-        let begun = len > 0;
+        let begun = !self.line.bytes().is_empty();
         if begun {
             self.answer(out);
         }
