@@ -2,9 +2,10 @@
 --     Gathering        the front of the buffer, and what is left of the part, are the content
 --     gather_begins, gather_goes_on    so it is at first, and after one byte more
 --     gather_room      there is room for that byte
---     gather_ends      with nothing left the front of the buffer is the content
+--     gather_ends, gather_full    with nothing left, or no room, the front of the buffer is the content
 use Rattle.std.proofs.Common.{◌≡◌, refl, sym, ap, ◌∙◌, Bool, true, false, cond, List, [], ◌∷◌, ◌++◌, ℕ, ◌+◌, ◌≤◌, ◌<◌}
 use Rattle.std.proofs.Common.{length, get_or, take, set, eqb, arith, length-append, append_assoc, append-nil, add-one}
+use Rattle.std.proofs.lemmas.List.{nil_from_length}
 use lib.ListN.{length-set}
 use lib.Seq.{take-suc-set, length-take-le}
 use Rattle.rfc4180.specs.Grammar.{dquote}
@@ -68,5 +69,22 @@ gather_ends part room buffer [] to so_far past = rw long whole
     long = sym (ap length whole) ∙ length-take-le to buffer so_far.written
 gather_ends part room buffer (byte ∷ more) to so_far past = absurd (omega arith)
 
+-- and so it is where no room is left
+pub gather_full : (part : List ℕ) (room : ℕ) (buffer rest : List ℕ) (to : ℕ) → Gathering part room buffer rest to
+    → length (undoubled part) ≤ room → length buffer ≤ to → take (length (undoubled part)) buffer ≡ undoubled part
+gather_full part room buffer rest to so_far enough full = rw long whole
+  where
+    nothing : undoubled rest ≡ []
+    nothing = nil_from_length (undoubled rest) (omega (arith, lengths part room buffer rest to so_far, so_far.kept))
+
+    whole : take to buffer ≡ undoubled part
+    whole =
+        sym (append-nil (take to buffer))
+        ∙ ap (λ (l : List ℕ). take to buffer ++ l) (sym nothing)
+        ∙ so_far.gathered
+
+    long : length (undoubled part) ≡ to
+    long = sym (ap length whole) ∙ length-take-le to buffer so_far.written
+
 -- what `gather` needs
-pub ruleset gather_laws = (gather_begins, gather_room, gather_goes_on, gather_ends)
+pub ruleset gather_laws = (gather_begins, gather_goes_on, gather_ends, gather_full)

@@ -9,11 +9,12 @@ pub fn gather(part: &[u8], buffer: &mut [u8])
     ensures { take (length (undoubled part.now)) buffer.new ≡ undoubled part.now }
 {
     let mut rest = part;
-    let mut to = 0;
-    while let [byte, ..] = rest {
-        buffer[to] = *byte;
+    for slot in buffer.iter_mut() {
+        let [byte, ..] = rest else {
+            return;
+        };
+        *slot = *byte;
         rest = after_first(rest);
-        to += 1;
     }
 }
 
