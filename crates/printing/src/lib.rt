@@ -27,12 +27,7 @@ pub fn print<const N: usize>(text: &[u8], out: &mut Text<N>)
 }
 
 // Puts the printout of a roster that goes into lent memory of any length and content.
-pub fn print_on<const N: usize>(
-    table: &mut [u16],
-    store: &mut [u8],
-    text: &[u8],
-    out: &mut Text<N>,
-)
+pub fn print_on<const N: usize>(table: &mut [u16], store: &mut [u8], text: &[u8], out: &mut Text<N>)
     requires { length out.old + print_room ≤ N }
     ensures { Prints (roster_outcome hub table.old store.old text.now)
         out.old table.new store.new out.new }
