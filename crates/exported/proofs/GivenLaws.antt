@@ -8,10 +8,9 @@ use mathlib.Core.Path.{◌≡◌, refl, sym, ap, ap₂, ◌∙◌}
 use Prim.Native.Nat.{ℕ}
 use lib.ListN.{length}
 use denote.Ref.{Bor}
+use Rattle.std.specs.Prelude.{Result, Ok, Err}
 use Rattle.types.specs.declared.Limits.{Limits}
 use Rattle.types.specs.declared.Refusal.{Refusal}
-use Rattle.types.specs.declared.DoneAnswer.{DoneAnswer}
-use Rattle.types.specs.declared.DoneAnswer.TheVariants.{Done, Refused}
 use Rattle.types.specs.Answers.{Answer, done, refused, refusal_number, done_says}
 use Rattle.types.specs.SaveReplies.{SaveReply}
 use Rattle.types.specs.LoadReplies.{LoadReply}
@@ -78,14 +77,14 @@ part_hidden : (v : Verdict) (number start len : ℕ) → refused number ≡ answ
 part_hidden pass number start len says = clash cc
 part_hidden (refuse other) number start len says = let same : number ≡ other = cc in rw same
 
-module _ (limits : Limits) (table : List ℕ) (store : Bor (List ℕ)) (k : ℕ) (said : DoneAnswer)
+module _ (limits : Limits) (table : List ℕ) (store : Bor (List ℕ)) (k : ℕ) (said : Result Unit Refusal)
     (says : done_says said ≡ view_outcome limits table store.now k) where
   -- Where the first call is done, the part's start is a machine word.
-  pub start_fits : said ≡ Done → LimitsFit limits → (given : Limits) → given ≡ limits → StartFits given k
+  pub start_fits : said ≡ Ok tt → LimitsFit limits → (given : Limits) → given ≡ limits → StartFits given k
   start_fits is_done fit given same = rw same (view_start_lem limits table store.now k fit said says is_done)
 
   -- The view is packed with the part's start and length.
-  pub shown_packed : said ≡ Done → (own : Limits) → own ≡ limits → (part : Bor (List ℕ)) (start given : ℕ)
+  pub shown_packed : said ≡ Ok tt → (own : Limits) → own ≡ limits → (part : Bor (List ℕ)) (start given : ℕ)
       → Views limits table store k part → start ≡ part_start own k
       → given ≡ packed_part start (length part.now) → given ≡ packed_view limits table store.now k
   unfolding packed_view view_start view_outcome
@@ -96,7 +95,7 @@ module _ (limits : Limits) (table : List ℕ) (store : Bor (List ℕ)) (k : ℕ)
       (length (view_part limits table store.now k)) (cc))
 
   -- Where it refuses, the view is packed with the refusal's number.
-  pub hidden_packed : (refusal : Refusal) (given : ℕ) → said ≡ Refused refusal
+  pub hidden_packed : (refusal : Refusal) (given : ℕ) → said ≡ Err refusal
       → given ≡ packed (refused (refusal_number refusal)) → given ≡ packed_view limits table store.now k
   unfolding packed_view view_outcome
   hidden_packed refusal given is_refused packs =

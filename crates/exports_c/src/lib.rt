@@ -15,13 +15,15 @@ ghost use Rattle.files.specs.Loads.{load_outcome};
 ghost use Rattle.rfc4180.specs.Rosters.{roster_outcome};
 ghost use Rattle.exported.specs.Given.{packed_view, Packs, PacksList, PacksSave, PacksLoad, PacksRoster};
 
+use index::Hub;
+
 // Lays out an empty table.
 #[unsafe(no_mangle)]
 pub extern "C" fn strap_layout(table: &mut [u16], store: &mut [u8]) -> usize
     ensures { Packs (layout_outcome hub table.old store.old)
         result table.new store.new }
 {
-    exports::strap_layout(table, store)
+    exports::layout::<Hub>(table, store)
 }
 
 // Searches for a label: its slot and value, or the slots of its neighbours.
@@ -29,7 +31,7 @@ pub extern "C" fn strap_layout(table: &mut [u16], store: &mut [u8]) -> usize
 pub extern "C" fn strap_search(table: &[u16], store: &[u8], label: &[u8]) -> usize
     ensures { result ≡ packed (search_outcome hub table.now store.now label.now) }
 {
-    exports::strap_search(table, store, label)
+    exports::search::<Hub>(table, store, label)
 }
 
 // Inserts a label with its value.
@@ -43,7 +45,7 @@ pub extern "C" fn strap_insert(
     ensures { Packs (insert_outcome hub table.old store.old label.now value)
         result table.new store.new }
 {
-    exports::strap_insert(table, store, label, value)
+    exports::insert::<Hub>(table, store, label, value)
 }
 
 // Deletes a label.
@@ -52,7 +54,7 @@ pub extern "C" fn strap_delete(table: &mut [u16], store: &mut [u8], label: &[u8]
     ensures { Packs (delete_outcome hub table.old store.old label.now)
         result table.new store.new }
 {
-    exports::strap_delete(table, store, label)
+    exports::delete::<Hub>(table, store, label)
 }
 
 // Sets the charge of a held label.
@@ -66,7 +68,7 @@ pub extern "C" fn strap_set_charge(
     ensures { Packs (charge_outcome hub table.old store.now label.now charge)
         result table.new store.now }
 {
-    exports::strap_set_charge(table, store, label, charge)
+    exports::set_charge(table, store, label, charge)
 }
 
 // Tests the whole table and store.
@@ -74,7 +76,7 @@ pub extern "C" fn strap_set_charge(
 pub extern "C" fn strap_check(table: &[u16], store: &[u8]) -> usize
     ensures { result ≡ packed (check_outcome hub table.now store.now) }
 {
-    exports::strap_check(table, store)
+    exports::check::<Hub>(table, store)
 }
 
 // Writes the slots in ascending label order into a lent list.
@@ -83,7 +85,7 @@ pub extern "C" fn strap_listing(table: &[u16], store: &[u8], list: &mut [u16]) -
     ensures { PacksList (listing_outcome hub table.now store.now list.old)
         result list.new }
 {
-    exports::strap_listing(table, store, list)
+    exports::listing::<Hub>(table, store, list)
 }
 
 // Writes the file of the labels into the front of a lent output.
@@ -92,7 +94,7 @@ pub extern "C" fn strap_save(table: &[u16], store: &[u8], output: &mut [u8]) -> 
     ensures { PacksSave (save_outcome hub table.now store.now output.old)
         result output.new }
 {
-    exports::strap_save(table, store, output)
+    exports::save(table, store, output)
 }
 
 // Loads a saved file into table and store, whatever they hold.
@@ -101,7 +103,7 @@ pub extern "C" fn strap_load(table: &mut [u16], store: &mut [u8], file: &[u8]) -
     ensures { PacksLoad (load_outcome hub table.old store.old file.now)
         result table.new store.new }
 {
-    exports::strap_load(table, store, file)
+    exports::load(table, store, file)
 }
 
 // Takes a roster into table and store, record by record.
@@ -110,7 +112,7 @@ pub extern "C" fn strap_take_roster(table: &mut [u16], store: &mut [u8], text: &
     ensures { PacksRoster (roster_outcome hub table.old store.old text.now)
         result table.new store.new }
 {
-    exports::strap_take_roster(table, store, text)
+    exports::take_roster(table, store, text)
 }
 
 // Whether the view of a slot's label is refused.
@@ -118,7 +120,7 @@ pub extern "C" fn strap_take_roster(table: &mut [u16], store: &mut [u8], text: &
 pub extern "C" fn strap_view_check(table: &[u16], store: &[u8], slot: usize) -> usize
     ensures { result ≡ packed (view_outcome hub table.now store.now slot) }
 {
-    exports::strap_view_check(table, store, slot)
+    exports::view_check::<Hub>(table, store, slot)
 }
 
 // Where in the lent store a slot's label begins, and how long it is.
@@ -126,5 +128,5 @@ pub extern "C" fn strap_view_check(table: &[u16], store: &[u8], slot: usize) -> 
 pub extern "C" fn strap_view(table: &[u16], store: &[u8], slot: usize) -> usize
     ensures { result ≡ packed_view hub table.now store.now slot }
 {
-    exports::strap_view(table, store, slot)
+    exports::view::<Hub>(table, store, slot)
 }

@@ -1,4 +1,4 @@
-// The pairing page's label index for C, as a static library: the calls of `page_exports`, each with its clauses again.
+// The pairing page's label index for C, as a static library: the calls of `exports`, each with its clauses again.
 // What is asked of a caller is said at `exports_c`.
 #![tactic(auto)]
 
@@ -9,13 +9,15 @@ ghost use Rattle.tables.specs.Outcomes.{listing_outcome, view_outcome};
 ghost use Rattle.packs.specs.Packed.{packed};
 ghost use Rattle.exported.specs.Given.{packed_view, Packs, PacksList};
 
+use index::Page;
+
 // Lays out an empty table.
 #[unsafe(no_mangle)]
 pub extern "C" fn strap_page_layout(table: &mut [u16], store: &mut [u8]) -> usize
     ensures { Packs (layout_outcome page table.old store.old)
         result table.new store.new }
 {
-    page_exports::strap_page_layout(table, store)
+    exports::layout::<Page>(table, store)
 }
 
 // Searches for a label: its slot and value, or the slots of its neighbours.
@@ -23,7 +25,7 @@ pub extern "C" fn strap_page_layout(table: &mut [u16], store: &mut [u8]) -> usiz
 pub extern "C" fn strap_page_search(table: &[u16], store: &[u8], label: &[u8]) -> usize
     ensures { result ≡ packed (search_outcome page table.now store.now label.now) }
 {
-    page_exports::strap_page_search(table, store, label)
+    exports::search::<Page>(table, store, label)
 }
 
 // Inserts a label with its value.
@@ -37,7 +39,7 @@ pub extern "C" fn strap_page_insert(
     ensures { Packs (insert_outcome page table.old store.old label.now value)
         result table.new store.new }
 {
-    page_exports::strap_page_insert(table, store, label, value)
+    exports::insert::<Page>(table, store, label, value)
 }
 
 // Deletes a label.
@@ -46,7 +48,7 @@ pub extern "C" fn strap_page_delete(table: &mut [u16], store: &mut [u8], label: 
     ensures { Packs (delete_outcome page table.old store.old label.now)
         result table.new store.new }
 {
-    page_exports::strap_page_delete(table, store, label)
+    exports::delete::<Page>(table, store, label)
 }
 
 // Tests the whole table and store.
@@ -54,7 +56,7 @@ pub extern "C" fn strap_page_delete(table: &mut [u16], store: &mut [u8], label: 
 pub extern "C" fn strap_page_check(table: &[u16], store: &[u8]) -> usize
     ensures { result ≡ packed (check_outcome page table.now store.now) }
 {
-    page_exports::strap_page_check(table, store)
+    exports::check::<Page>(table, store)
 }
 
 // Writes the slots in ascending label order into a lent list.
@@ -63,7 +65,7 @@ pub extern "C" fn strap_page_listing(table: &[u16], store: &[u8], list: &mut [u1
     ensures { PacksList (listing_outcome page table.now store.now list.old)
         result list.new }
 {
-    page_exports::strap_page_listing(table, store, list)
+    exports::listing::<Page>(table, store, list)
 }
 
 // Whether the view of a slot's label is refused.
@@ -71,7 +73,7 @@ pub extern "C" fn strap_page_listing(table: &[u16], store: &[u8], list: &mut [u1
 pub extern "C" fn strap_page_view_check(table: &[u16], store: &[u8], slot: usize) -> usize
     ensures { result ≡ packed (view_outcome page table.now store.now slot) }
 {
-    page_exports::strap_page_view_check(table, store, slot)
+    exports::view_check::<Page>(table, store, slot)
 }
 
 // Where in the lent store a slot's label begins, and how long it is.
@@ -79,5 +81,5 @@ pub extern "C" fn strap_page_view_check(table: &[u16], store: &[u8], slot: usize
 pub extern "C" fn strap_page_view(table: &[u16], store: &[u8], slot: usize) -> usize
     ensures { result ≡ packed_view page table.now store.now slot }
 {
-    page_exports::strap_page_view(table, store, slot)
+    exports::view::<Page>(table, store, slot)
 }
