@@ -4,7 +4,7 @@ use images::memory::Image;
 // Takes a text on an image's memory; the answer in one number.
 pub fn take(image: &mut Image, text: &[u8]) -> usize {
     match image.table_and_store_mut() {
-        Some((table, store)) => exports::strap_take_roster(table, store, text),
+        Some((table, store)) => exports::take_roster(table, store, text),
         None => 0,
     }
 }

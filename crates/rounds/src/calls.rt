@@ -1,8 +1,8 @@
 // The calls of the index on the memory that an image holds, lent at the lengths that it says.
-use crate::indexes::{Hub, Index, Page};
 use comparisons::Request;
 use images::memory::Image;
 use images::packing::Answer;
+use index::{Hub, Index, Page};
 use reports::faults::Fault;
 use samples::calls::Call;
 
@@ -40,14 +40,14 @@ fn on_label<I: Index>(table: &mut [u16], store: &mut [u8], request: Request) -> 
     } = request;
     let value = (number % 65536) as u16;
     match call {
-        Call::Search => I::search(table, store, label),
-        Call::Check => I::check(table, store),
-        Call::Insert => I::insert(table, store, label, value),
-        Call::Delete => I::delete(table, store, label),
-        Call::Layout => I::layout(table, store),
+        Call::Search => exports::search::<I>(table, store, label),
+        Call::Check => exports::check::<I>(table, store),
+        Call::Insert => exports::insert::<I>(table, store, label, value),
+        Call::Delete => exports::delete::<I>(table, store, label),
+        Call::Layout => exports::layout::<I>(table, store),
         // The hub's index alone has it.
-        Call::SetCharge => exports::strap_set_charge(table, store, label, value),
-        _ => I::view_check(table, store, number),
+        Call::SetCharge => exports::set_charge(table, store, label, value),
+        _ => exports::view_check::<I>(table, store, number),
     }
 }
 
@@ -55,7 +55,7 @@ fn on_label<I: Index>(table: &mut [u16], store: &mut [u8], request: Request) -> 
 fn list<I: Index>(image: &mut Image) -> usize {
     let mut list = image.list;
     let said = match (image.table_and_store(), list.get_mut(..image.lent.room)) {
-        (Some((table, store)), Some(list)) => I::listing(table, store, list),
+        (Some((table, store)), Some(list)) => exports::listing::<I>(table, store, list),
         _ => 0,
     };
     image.list = list;
@@ -67,7 +67,7 @@ fn put_view<I: Index>(image: &mut Image, slot: usize) -> usize {
     let mut list = image.list;
     let said = match image.table_and_store() {
         Some((table, store)) => {
-            let part = I::view(table, store, slot);
+            let part = index::view::<I>(table, store, slot);
             for (word, byte) in list.iter_mut().zip(part.iter()) {
                 *word = u16::from(*byte);
             }

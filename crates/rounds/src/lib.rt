@@ -2,7 +2,6 @@
 #![tactic(auto)]
 
 pub mod calls;
-mod indexes;
 pub mod loading;
 pub mod saving;
 pub mod states;

@@ -4,6 +4,7 @@ use crate::{calls, states};
 use comparisons::loads;
 use images::memory::Image;
 use images::packing::Answer;
+use index::Hub;
 use plainmap::{Entry, PlainMap};
 use reports::Round;
 use reports::faults::{Fault, ensure};
@@ -47,7 +48,7 @@ fn compare_loaded(found: &Image, left: &Image, map: &PlainMap) -> Result<(), Fau
 
 fn make(image: &mut Image, file: &[u8]) -> usize {
     match image.table_and_store_mut() {
-        Some((table, store)) => exports::strap_load(table, store, file),
+        Some((table, store)) => exports::load(table, store, file),
         None => 0,
     }
 }
@@ -62,7 +63,7 @@ fn insert_all(image: &mut Image, map: &PlainMap) -> bool {
 
 // A map of a file's labels has them in the slots from 1 on.
 fn fill(table: &mut [u16], store: &mut [u8], map: &PlainMap) -> bool {
-    let mut done = exports::strap_layout(table, store) == usize::from(Answer::Done);
+    let mut done = exports::layout::<Hub>(table, store) == usize::from(Answer::Done);
     for entry in map.entries() {
         done = insert(table, store, entry) && done;
     }
@@ -71,7 +72,7 @@ fn fill(table: &mut [u16], store: &mut [u8], map: &PlainMap) -> bool {
 
 // Inserts a label; whether it takes the slot that the map has it in.
 fn insert(table: &mut [u16], store: &mut [u8], entry: &Entry) -> bool {
-    let said = exports::strap_insert(table, store, entry.label.as_slice(), entry.value);
+    let said = exports::insert::<Hub>(table, store, entry.label.as_slice(), entry.value);
     match Answer::try_from(said) {
         Ok(Answer::Updated { slot, .. }) => slot == entry.slot,
         _ => false,

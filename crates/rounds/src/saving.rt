@@ -49,7 +49,7 @@ pub fn again(image: &Image, map: &PlainMap, before: &Output) -> Round {
 
 fn make(image: &Image, output: &mut Output, room: usize) -> usize {
     match (image.table_and_store(), output.get_mut(..room)) {
-        (Some((table, store)), Some(output)) => exports::strap_save(table, store, output),
+        (Some((table, store)), Some(output)) => exports::save(table, store, output),
         _ => 0,
     }
 }

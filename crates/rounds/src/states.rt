@@ -1,9 +1,9 @@
 // The memory after a call on a sound table, compared with the map, by the second writing and by calls that read it.
 use crate::calls;
-use crate::indexes::{Hub, Index, Page};
 use comparisons::Request;
 use images::memory::Image;
 use images::packing::Answer;
+use index::{Hub, Index, Page};
 use plainmap::PlainMap;
 use reports::faults::{Fault, ensure};
 use samples::calls::Call;
@@ -42,11 +42,11 @@ fn compare_calls(left: &Image, map: &PlainMap) -> Result<(), Fault> {
 
 fn compare_reads<I: Index>(table: &[u16], store: &[u8], map: &PlainMap) -> Result<(), Fault> {
     ensure(
-        I::check(table, store) == usize::from(Answer::Done),
+        exports::check::<I>(table, store) == usize::from(Answer::Done),
         Fault::Check,
     )?;
     for entry in map.entries() {
-        let view = I::view(table, store, entry.slot);
+        let view = index::view::<I>(table, store, entry.slot);
         ensure(view == entry.label.as_slice(), Fault::View)?;
     }
     Ok(())
