@@ -1,4 +1,5 @@
 // The lines of the labels that a table holds.
+use index::Hub;
 use std::marker::Model;
 use texts::Text;
 
@@ -31,7 +32,7 @@ impl Held<'_> {
         ensures { Puts out.old (label_lines self.now) (line_room * hub.slots) out.new }
     {
         let mut list = [0; 512];
-        let answer = index::listing(self.table, self.store, &mut list);
+        let answer = index::listing::<Hub>(self.table, self.store, &mut list);
         if let Ok(count) = answer {
             self.put_lines(&list[..count], out);
         }
@@ -54,7 +55,7 @@ impl Held<'_> {
         ensures { Puts out.old (label_line (shown_at self.now slot)) line_room out.new }
     {
         let row = words::total::row_of(self.table, slot);
-        let label = index::view(self.table, self.store, slot as usize);
+        let label = index::view::<Hub>(self.table, self.store, slot as usize);
         printouts::put_line(slot, row.value, label, out);
     }
 }

@@ -13,6 +13,7 @@ ghost use Rattle.printouts.specs.Rooms.{print_room};
 ghost use Rattle.printing.specs.Prints.{Prints};
 
 use held::Held;
+use index::Hub;
 use texts::Text;
 
 // Puts the printout of a roster that goes into a fresh table.
@@ -22,7 +23,7 @@ pub fn print<const N: usize>(text: &[u8], out: &mut Text<N>)
 {
     let mut table = [0; 4100];
     let mut store = [0; 32768];
-    let _ = index::layout(&mut table, &mut store);
+    let _ = index::layout::<Hub>(&mut table, &mut store);
     print_on(&mut table, &mut store, text, out);
 }
 

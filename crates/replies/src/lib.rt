@@ -7,6 +7,7 @@ ghost use Rattle.lines.specs.Commands.{asks};
 ghost use Rattle.inputs.specs.Inputs.{reply_to};
 ghost use Rattle.replies.specs.Replies.{reply_of, Replies};
 
+use index::Hub;
 use lines::Command;
 use texts::{Said, Text};
 
@@ -29,9 +30,9 @@ fn ask(table: &mut [u16], store: &mut [u8], line: &[u8]) -> Option<Said>
     let command = lines::command_of(line)?;
     match command {
         Command::Insert { label, value } => {
-            Some(Said::Update(index::insert(table, store, label, value)))
+            Some(Said::Update(index::insert::<Hub>(table, store, label, value)))
         }
-        Command::Delete { label } => Some(Said::Update(index::delete(table, store, label))),
-        Command::Search { label } => Some(Said::Search(index::search(table, store, label))),
+        Command::Delete { label } => Some(Said::Update(index::delete::<Hub>(table, store, label))),
+        Command::Search { label } => Some(Said::Search(index::search::<Hub>(table, store, label))),
     }
 }

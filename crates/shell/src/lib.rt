@@ -4,6 +4,7 @@
 
 pub mod pipes;
 
+use index::Hub;
 use keeps::Line;
 use std::marker::Model;
 use texts::Text;
@@ -40,7 +41,7 @@ impl Shell {
     {
         let mut table = [0; 4100];
         let mut store = [0; 32768];
-        let _ = index::layout(&mut table, &mut store);
+        let _ = index::layout::<Hub>(&mut table, &mut store);
         Shell {
             table,
             store,
