@@ -45,12 +45,12 @@ pub fn shown(a: u8, b: u8) -> Ordering
     }
 }
 
-// Whether one number stands for two bytes.
+// Whether one number stands for two bytes: those that are the same, as mostly, need no fold.
 #[tactic(auto, using(std::proofs::lemmas::Grind::common_steps), unfolding(labels::specs::Labels::number_of))]
 pub fn same_letter(a: u8, b: u8) -> bool
     ensures { result ≡ eqb (number_of a) (number_of b) }
 {
-    a.eq_ignore_ascii_case(&b)
+    a == b || a.eq_ignore_ascii_case(&b)
 }
 
 // The order by two bytes, with no table.
