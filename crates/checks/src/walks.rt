@@ -33,6 +33,9 @@ pub fn check_tree(
     }
     let row = words::read_row(table, link);
     let gaps = nodechecks::node_gaps(limits, table, store, link, row, below, above, apart)?;
+    if row.left == 0 && row.right == 0 {
+        return heights::over(row.balance, heights::EMPTY, heights::EMPTY);
+    }
     let mut left = heights::EMPTY;
     if row.left != 0 {
         let son = row.left as usize;

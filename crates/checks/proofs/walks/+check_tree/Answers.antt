@@ -24,6 +24,12 @@ returns-in_err-gaps t c =
     ∙ tree_wrong _ _ _ _ _ _ _ c.if-link-eq0.false c.if-remaining-eq0.false c.if-limits-link.false _ c.node_gaps.ensures
     c.in_err-gaps.was
 
+pub returns-then-row-eq0-2 : goal.returns-then-row-eq0-2
+returns-then-row-eq0-2 t c =
+    tree_over _ _ _ _ _ _ _ c.if-link-eq0.false c.if-remaining-eq0.false c.if-limits-link.false _
+    c.node_gaps.ensures _ c.read_row-row.ensures _ c.in_ok-gaps.was _ (tree_none _ _ _ _ _ _ _ c.if-row-eq0.true) _
+    (tree_none _ _ _ _ _ _ _ c.if-row-eq0-2.true) _ c.over.ensures
+
 pub check_tree-requires : goal.check_tree-requires
 check_tree-requires t c = (
   omega arith,
@@ -71,15 +77,15 @@ returns-in_err-right t c =
     (left_found t (goal.at.returns-in_err-right t c).Joined-row-ne0)
     (sym c.in_err-right.was ∙ c.check_tree-then-row-ne0-2.ensures)
 
-pub over-requires : goal.over-requires
-over-requires t c =
+pub over-requires-2 : goal.over-requires-2
+over-requires-2 t c =
     tree_sons_fit _ _ _ _ _ _ _ c.if-link-eq0.false c.if-remaining-eq0.false c.if-limits-link.false _
     c.node_gaps.ensures _ c.read_row-row.ensures _ c.in_ok-gaps.was _
-    (left_found t (goal.at.over-requires t c).Joined-row-ne0) _ (right_found t c) c.requires.deep
+    (left_found t (goal.at.over-requires-2 t c).Joined-row-ne0) _ (right_found t c) c.requires.deep
 
 pub returns : goal.returns
 returns t c =
     tree_over _ _ _ _ _ _ _ c.if-link-eq0.false c.if-remaining-eq0.false c.if-limits-link.false _
     c.node_gaps.ensures _ c.read_row-row.ensures _ c.in_ok-gaps.was _
     (left_found t (goal.at.returns t c).Joined-row-ne0) _ (right_found t (goal.at.returns t c).Joined-row-ne0-2) _
-    c.over.ensures
+    c.over-2.ensures
