@@ -19,7 +19,7 @@ fn part_zero(limits: Limits, store: &[u8], slot: usize, first: usize) -> bool
     ensures { result ≡ all_zero (drop first (part_at limits store.now slot)) }
 {
     let part = words::parts::label_at(limits, store, slot, limits.width);
-    zeros::bytes_zero(&part[first..])
+    zeros::end_zero(&part[first..])
 }
 
 // Whether a word is a charge. One that is not known, as an insert leaves it, passes by one test. The others are told by

@@ -2,14 +2,14 @@
 -- `gathered_zero`: numbers are zero where the number of all their bits is. `list_all_zero`: tested one after the other.
 -- `chunks_broken`, `chunks_passed`: a list is zero where its chunks are, and what they leave.
 -- `last_settles`: where it is as its end from an index on, an end that begins before settles it.
--- `blocks_broken`, `eights_broken`, `last_decides`: what the tests of bytes find.
+-- `last_decides`: the last eight of bytes whose eights are zero.
 use Prim.Native.Nat.{ℕ, zero, suc, ◌+◌, ◌-◌, ◌*◌, ◌/◌, ◌≤◌}
 use mathlib.Core.Path.{◌≡◌, refl, sym, ap, ◌∙◌}
 use mathlib.Core.List.{List, [], ◌∷◌, ◌++◌}
 use mathlib.Core.Bool.{Bool, true, false, ◌&&◌}
 use native.Mathlib.Omega.{arith}
 use lib.Dec.{eqb}
-use lib.ListN.{length, take, drop, take-append-drop, length-drop}
+use lib.ListN.{length, take, drop, take-append-drop}
 use lib.Seq.{drop-drop}
 use borrow.Author.Tests.{ne_eqb}
 use Rattle.std.specs.Int.Bits.{bit_or, or_zero_l, or_add_and, and_le_r}
@@ -94,36 +94,15 @@ last_settles xs i j before e = go (all_zero (drop i xs)) refl
         sym ((both_true (all_zero (take (j - i) (drop i xs))) _).0 (sym rest ∙ is)).1 ∙ rw (drop-drop (j - i) i xs, step) (sym e)
     go false is = sym (split_zeros i xs ∙ rw is (both_false (all_zero (take i xs))))
 
--- ---- bytes tested by thirty-two, those that are left by eight, and the last eight again
+-- ---- bytes tested by eight, and the last eight again
 
-module _ (xs tail : List ℕ) (blocks : List (List ℕ)) (a : Bool)
-    (first : blocks ≡ first_chunks 32 (length xs / 32) xs) (left : tail ≡ drop (length xs / 32 * 32) xs)
-    (a_tests : a ≡ list_all all_zero blocks) where
-  -- a block is not zero
-  pub blocks_broken : a ≡ false → false ≡ all_zero xs
-  blocks_broken = chunks_broken 32 (length xs / 32) xs a (a_tests ∙ ap (list_all all_zero) first)
-
-  module _ (eights : List (List ℕ)) (b : Bool) (all_first : a ≡ true)
-      (second : eights ≡ first_chunks 8 (length tail / 8) tail)
-      (b_tests : b ≡ list_all all_zero eights) where
-    tested : b ≡ list_all all_zero (first_chunks 8 (length tail / 8) tail)
-    tested = b_tests ∙ ap (list_all all_zero) second
-
-    as_tail : all_zero tail ≡ all_zero xs
-    as_tail = ap all_zero left ∙ chunks_passed 32 (length xs / 32) xs a (a_tests ∙ ap (list_all all_zero) first) all_first
-
-    -- eight bytes are not
-    pub eights_broken : b ≡ false → false ≡ all_zero xs
-    eights_broken f = chunks_broken 8 (length tail / 8) tail b tested f ∙ as_tail
-
-    -- the last eight decide
-    pub last_decides : (last : List ℕ) (c : Bool) → b ≡ true → last ≡ drop (length xs - 8) xs → c ≡ all_zero last → c ≡ all_zero xs
-    last_decides last c all_second e c_tests =
-        let from = length xs / 32 * 32 in
-        let k = length tail / 8 * 8 in
-        let size : length tail ≡ length xs - from = ap length left ∙ length-drop from xs in
-        let late : length xs - 8 ≤ from + k = omega arith in
-        let rest : all_zero (drop (from + k) xs) ≡ all_zero (drop k tail) = ap all_zero (sym (drop-drop k from xs)) ∙ ap (λ l. all_zero (drop k l)) (sym left) in
-        c_tests
-        ∙ ap all_zero e
-        ∙ last_settles xs (length xs - 8) (from + k) late (sym (rest ∙ chunks_passed 8 (length tail / 8) tail b tested all_second ∙ as_tail))
+-- the last eight decide
+pub last_decides : (xs last : List ℕ) (eights : List (List ℕ)) (b c : Bool)
+    → eights ≡ first_chunks 8 (length xs / 8) xs → b ≡ list_all all_zero eights → b ≡ true
+    → last ≡ drop (length xs - 8) xs → c ≡ all_zero last → c ≡ all_zero xs
+last_decides xs last eights b c front b_tests passed e c_tests =
+    let late : length xs - 8 ≤ length xs / 8 * 8 = omega arith in
+    c_tests
+    ∙ ap all_zero e
+    ∙ last_settles xs (length xs - 8) (length xs / 8 * 8) late
+    (sym (chunks_passed 8 (length xs / 8) xs b (b_tests ∙ ap (list_all all_zero) front) passed))

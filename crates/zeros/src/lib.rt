@@ -26,16 +26,23 @@ fn row_zero(row: &[u16; 8]) -> bool
     row.iter().fold(0, |bits, &word| bits | word) == 0
 }
 
-// Whether all bytes are zero: by thirty-two, by eight, and at last the last eight, of which some have been tested then.
-pub fn bytes_zero(bytes: &[u8]) -> bool
+// Whether the bytes of a part's end are zero: by eight, and at last the last eight, of which some have been tested then.
+pub fn end_zero(bytes: &[u8]) -> bool
     ensures { result ≡ all_zero bytes.now }
 {
     let Some(last) = bytes.last_chunk::<8>() else {
         return bytes.iter().all(|&b| b == 0);
     };
+    let (eights, _) = bytes.as_chunks::<8>();
+    blocks_zero(eights) && block_zero(last)
+}
+
+// Whether all bytes are zero: by thirty-two, and those that are left as an end.
+pub fn bytes_zero(bytes: &[u8]) -> bool
+    ensures { result ≡ all_zero bytes.now }
+{
     let (blocks, tail) = bytes.as_chunks::<32>();
-    let (eights, _) = tail.as_chunks::<8>();
-    blocks_zero(blocks) && blocks_zero(eights) && block_zero(last)
+    blocks_zero(blocks) && end_zero(tail)
 }
 
 // Whether all words are zero: by eight, and the last ones one by one.

@@ -1,35 +1,18 @@
-use Rattle.std.proofs.Common.{rules, sym, ◌∙◌}
-use Rattle.std.proofs.lemmas.Iterator.{YieldsList-from_slice}
-use Rattle.std.proofs.lemmas.Iterator.Search.{all_from_yields_List}
-use borrow.Author.Tests.{tests}
-use lib.Dec.{eqb}
-use Rattle.zeros.proofs.ZeroLaws.{list_all_zero, blocks_broken, eights_broken, last_decides}
+use Rattle.std.proofs.Common.{◌∙◌, ap}
+use Rattle.std.specs.List.{list_all}
+use Rattle.tables.specs.Sound.{all_zero}
+use Rattle.zeros.proofs.ZeroLaws.{chunks_broken, chunks_passed}
 use Rattle.zeros.proofs.bytes_zero.Goals as goal
-use Rattle.zeros.proofs.bytes_zero.Goals.{then-blocks_zero, else-blocks_zero}
 
-pub returns-in_default : goal.returns-in_default
-returns-in_default c =
-    all_from_yields_List (λ n. eqb n 0) _ _ c.all.result c.all.ensures.ran (YieldsList-from_slice c.args.bytes.now cc)
-    (λ x b q k. search (rules, tests))
-    ∙ list_all_zero c.args.bytes.now
+pub returns-then-blocks_zero : goal.returns-then-blocks_zero
+returns-then-blocks_zero c =
+    c.end_zero.ensures
+    ∙ ap all_zero c.as_chunks.ensures.back
+    ∙ chunks_passed 32 _ c.args.bytes.now _ (c.blocks_zero.ensures ∙ ap (list_all all_zero) c.as_chunks.ensures.front)
+    c.if-blocks_zero.true
 
-pub returns-then-blocks_zero-2 : goal.returns-then-blocks_zero-2
-returns-then-blocks_zero-2 c =
-    elim c.if-blocks_zero.branch [
-      | then-blocks_zero w ↦ last_decides c.args.bytes.now _ _ _ c.as_chunks.ensures.front c.as_chunks.ensures.back
-          c.blocks_zero.ensures _ _ w.if-blocks_zero.true c.as_chunks-2.ensures.front
-          w.blocks_zero-then-blocks_zero.ensures _ _ (sym w.value-is ∙ c.if-blocks_zero-2.true)
-          c.in-Some.ensures.cases.1.same c.block_zero.ensures
-      | else-blocks_zero w ↦ cc
-    ]
-
-pub returns-else-blocks_zero-2 : goal.returns-else-blocks_zero-2
-returns-else-blocks_zero-2 c =
-    c.if-blocks_zero-2.false
-    ∙ elim c.if-blocks_zero.branch [
-      | then-blocks_zero w ↦ eights_broken c.args.bytes.now _ _ _ c.as_chunks.ensures.front c.as_chunks.ensures.back
-          c.blocks_zero.ensures _ _ w.if-blocks_zero.true c.as_chunks-2.ensures.front
-          w.blocks_zero-then-blocks_zero.ensures (sym w.value-is ∙ c.if-blocks_zero-2.false)
-      | else-blocks_zero w ↦ blocks_broken c.args.bytes.now _ _ _ c.as_chunks.ensures.front c.as_chunks.ensures.back
-          c.blocks_zero.ensures w.if-blocks_zero.false
-    ]
+pub returns-else-blocks_zero : goal.returns-else-blocks_zero
+returns-else-blocks_zero c =
+    c.if-blocks_zero.false
+    ∙ chunks_broken 32 _ c.args.bytes.now _ (c.blocks_zero.ensures ∙ ap (list_all all_zero) c.as_chunks.ensures.front)
+    c.if-blocks_zero.false
