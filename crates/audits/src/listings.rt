@@ -8,6 +8,7 @@ pub fn write(image: &mut Image, held: usize) {
         return;
     };
     let mut slot = lowest(image, image.head(Head::Root));
+    // By place, as the links are read meanwhile.
     for i in 0..held {
         image.put_listed(i, slot);
         slot = next(image, &tree, slot);

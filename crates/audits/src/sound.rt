@@ -6,7 +6,8 @@ use arrayvec::ArrayVec;
 use images::memory::{Field, Head, Image, number_of};
 use images::refusals::Refusal;
 
-// What is read of a slot: its neighbours above it in the tree, 0 for none; whether it was met; and its height.
+// What is read of a slot: its neighbours above it in the tree, 0 for none as in the table's links; whether it was met;
+// and its height.
 #[derive(Clone, Copy, Default)]
 pub struct Node {
     pub before: usize,
@@ -30,6 +31,7 @@ impl Tree {
             nodes: [Node::default(); 513],
         };
         tree.join(image, image.head(Head::Root), 0, 0)?;
+        // By place, as the queue grows meanwhile.
         for i in 0..image.sizes.slots {
             let Some(slot) = tree.queue.as_slice().get(i).copied() else {
                 break;
@@ -67,6 +69,15 @@ impl Tree {
         self.nodes.get(slot).copied().unwrap_or_default()
     }
 
+    // Whether the table is sound that gives it, where its high mark is that of a slot.
+    fn holds(&mut self, image: &Image) -> bool {
+        self.queue.len() == image.head(Head::Held)
+            && self.nodes_hold(image)
+            && self.count_heights(image)
+            && self.chain_holds(image)
+            && rest_is_zero(image)
+    }
+
     fn height(&self, slot: usize) -> usize {
         self.node(slot).height
     }
@@ -81,6 +92,7 @@ impl Tree {
 
     // Counts the heights from the last node met to the root; whether each balance is right.
     fn count_heights(&mut self, image: &Image) -> bool {
+        // By place, as the nodes change meanwhile.
         for i in (0..self.queue.len()).rev() {
             let slot = self.queue.as_slice().get(i).copied().unwrap_or(0);
             let left = self.height(image.field(slot, Field::Left));
@@ -125,26 +137,17 @@ pub fn admit(image: &Image) -> Result<(), Refusal> {
 }
 
 pub fn is_sound(image: &Image) -> bool {
-    if image.head(Head::Mark) > image.sizes.slots {
-        return false;
+    match Tree::read(image) {
+        Some(mut tree) => image.head(Head::Mark) <= image.sizes.slots && tree.holds(image),
+        None => false,
     }
-    let Some(mut tree) = Tree::read(image) else {
-        return false;
-    };
-    tree.queue.len() == image.head(Head::Held)
-        && tree.nodes_hold(image)
-        && tree.count_heights(image)
-        && tree.chain_holds(image)
-        && rest_is_zero(image)
 }
 
 fn node_holds(image: &Image, slot: usize, node: Node) -> bool {
-    if !label_holds(image, slot) {
-        return false;
-    }
     let low = difference(image, node.before, slot);
     let high = difference(image, slot, node.after);
-    ascends(image, node.before, slot, low)
+    label_holds(image, slot)
+        && ascends(image, node.before, slot, low)
         && ascends(image, slot, node.after, high)
         && prefix_holds(image, slot, low, high)
 }
