@@ -16,18 +16,6 @@ pub enum Call {
 }
 
 impl Call {
-    // Those that both indexes have.
-    pub const OF_BOTH: [Call; 8] = [
-        Call::Search,
-        Call::Check,
-        Call::Listing,
-        Call::ViewCheck,
-        Call::View,
-        Call::Insert,
-        Call::Delete,
-        Call::Layout,
-    ];
-
     pub fn name(self) -> &'static str {
         match self {
             Call::Search => "search",

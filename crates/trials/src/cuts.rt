@@ -45,6 +45,7 @@ fn group(shape: Shape, name: &str) -> Group<'_> {
 fn write(file: &mut Output, shape: Shape) -> usize {
     let mut map = PlainMap::new(512, 64);
     for k in 0..bytes::LABELS {
+        // The shape's number is part of what is drawn: the inputs may not change.
         let value = numbers::value(shape as usize, k);
         // A label that the map refuses is not in the file.
         let _ = map.insert(shape.label(64, k).as_slice(), value);
@@ -68,6 +69,7 @@ fn change_each(
     file: &Output,
     n: usize,
 ) -> io::Result<()> {
+    // By place, at which a copy is changed.
     for at in 0..n.min(outputs::ALL) {
         for way in Way::ALL {
             let mut copy = *file;

@@ -1,4 +1,5 @@
 // The groups of calls on damaged memory: sound tables with words, bytes, rows or links changed.
+use crate::probes::Probe;
 use crate::{saving, sequences};
 use comparisons::Request;
 use images::memory::Image;
@@ -7,14 +8,10 @@ use plans::changes::Kind;
 use plans::planned::Due;
 use reports::Report;
 use reports::tallies::{Group, Tally};
-use samples::calls::Call;
+use samples::numbers;
 use samples::shapes::{Label, Shape};
-use samples::{charges, numbers};
 use std::io;
 use std::io::Stdout;
-
-// The calls that are made on memory with a label: those of both indexes; the hub's, which sets a charge, twice.
-pub const ALL_CALLS: usize = 10;
 
 // Makes the changes of each kind on a table of a shape, and prints a line for each, and for the saves of all.
 pub fn run(out: Stdout, image: &Image, shape: Shape) -> io::Result<()> {
@@ -91,8 +88,12 @@ fn call_all(
     let label = label_of(image.sizes.width, shape, kind, seed);
     let slots = image.sizes.slots.wrapping_add(8);
     let slot = numbers::below(numbers::next(seed), slots.min(80));
-    for k in 0..calls_of(image) {
-        call(report, image, k, label.as_slice(), slot, seed)?;
+    for (k, probe) in Probe::ALL.iter().enumerate() {
+        if probe.fits(image) {
+            let draw = numbers::mixed_seed(seed, k);
+            let request = probe.request(label.as_slice(), slot, draw);
+            tried(report, image, request, Due::Judged)?;
+        }
     }
     Ok(())
 }
@@ -107,44 +108,13 @@ fn label_of(width: usize, shape: Shape, kind: Kind, seed: u64) -> Label {
 
 // Three times of four a label that the table may hold, else any of letters.
 fn old_label(width: usize, shape: Shape, seed: u64) -> Label {
+    // The kind's number is part of the seed: the inputs may not change.
     let draw = numbers::mixed_seed(seed, Kind::Old as usize);
     let k = numbers::below(draw, 80);
     if numbers::below(numbers::next(draw), 4) == 0 {
         return Shape::Letters.label(width, k);
     }
     changes::old_label(&shape.label(width, k), seed)
-}
-
-// How many of these calls the index has.
-pub fn calls_of(image: &Image) -> usize {
-    if image.is_page() {
-        Call::OF_BOTH.len()
-    } else {
-        ALL_CALLS
-    }
-}
-
-// Makes call `k` with a slot; the last two set a right charge and a wrong one.
-pub fn call(
-    report: &mut Report<Tally>,
-    image: &Image,
-    k: usize,
-    label: &[u8],
-    slot: usize,
-    seed: u64,
-) -> io::Result<()> {
-    let draw = numbers::mixed_seed(seed, k);
-    let (call, number) = match Call::OF_BOTH.get(k) {
-        Some(call) => (*call, slot),
-        None if k == Call::OF_BOTH.len() => (Call::SetCharge, charges::right(draw)),
-        None => (Call::SetCharge, charges::wrong(draw)),
-    };
-    let request = Request {
-        call,
-        label,
-        number,
-    };
-    tried(report, image, request, Due::Judged)
 }
 
 // Makes a call of which something is to come, and counts it.

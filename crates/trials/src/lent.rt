@@ -1,6 +1,6 @@
 // The group of calls on memory of other lengths, and of listings into lists of other lengths.
 use crate::damage;
-use crate::damage::ALL_CALLS;
+use crate::probes::Probe;
 use comparisons::Request;
 use images::memory::{Head, Image};
 use plans::lengths;
@@ -23,7 +23,7 @@ pub fn run(out: Stdout, image: &Image) -> io::Result<()> {
     for n in lengths::labels(image.sizes.width) {
         for pair in Pair::ALL {
             lend(&mut report, image, pair, n, first)?;
-            first = first.wrapping_add(ALL_CALLS);
+            first = first.wrapping_add(Probe::ALL.len());
         }
     }
     for room in lengths::rooms(image.head(Head::Held)) {
@@ -47,10 +47,14 @@ fn lend(
     let mut copy = *image;
     pair.lend(&mut copy);
     let label = [b'h'; 66];
-    for k in 0..damage::calls_of(&copy) {
-        let seed = numbers::mixed_seed(numbers::SEED, before.wrapping_add(k));
-        report.tally.changes.add_if(copy != *image);
-        damage::call(report, &copy, k, &label[..n.min(66)], SLOT, seed)?;
+    for (k, probe) in Probe::ALL.iter().enumerate() {
+        if probe.fits(&copy) {
+            let seed = numbers::mixed_seed(numbers::SEED, before.wrapping_add(k));
+            let draw = numbers::mixed_seed(seed, k);
+            let request = probe.request(&label[..n.min(66)], SLOT, draw);
+            report.tally.changes.add_if(copy != *image);
+            damage::tried(report, &copy, request, Due::Judged)?;
+        }
     }
     Ok(())
 }

@@ -9,6 +9,7 @@ mod edges;
 mod file_edges;
 mod lent;
 mod loading;
+mod probes;
 mod saving;
 mod sequences;
 mod written_files;

@@ -35,6 +35,7 @@ pub fn on_damaged(report: &mut Report<Tally>, image: &Image, seed: u64) -> io::R
         return Ok(());
     }
     let map = saves::map_of(image);
+    // The call's number is part of the seed: the inputs may not change.
     let draw = numbers::mixed_seed(seed, Call::Save as usize);
     report.tally.changes.add(1);
     in_turn(report, image, &map, numbers::below(draw, lengths::TURNS))
