@@ -3,7 +3,7 @@ use crate::sizes::Sizes;
 
 // The sizes of the index that is called; how much of the memory is lent; the words of the table, those of a list, and
 // the bytes of the store: one more of each than the hub's, and one more than it has slots. What lies outside reads as 0
-// and is never written.
+// and is never written. Arrays, which copy and compare as they are: a Vec's copy may be refused its memory.
 #[derive(Clone, Copy, PartialEq, Eq)]
 pub struct Image {
     pub sizes: Sizes,
@@ -21,7 +21,7 @@ pub struct Lent {
     pub room: usize,
 }
 
-// The words of the table's head.
+// The words of the table's head, numbered in their order there, which is the format's.
 #[derive(Clone, Copy, Debug, PartialEq, Eq)]
 pub enum Head {
     Root,
@@ -30,7 +30,7 @@ pub enum Head {
     Mark,
 }
 
-// The words of a slot.
+// The words of a slot, numbered in their order there, which is the format's.
 #[derive(Clone, Copy, Debug, PartialEq, Eq)]
 pub enum Field {
     Left,

@@ -4,6 +4,7 @@
 // The bytes of the array: 32 more than the longest file.
 pub const ALL: usize = 34850;
 
+// An array, which copies and compares as it is: a Vec's copy may be refused its memory.
 pub type Output = [u8; ALL];
 
 // An output before a call: no byte is 0, and none is that of its neighbours.

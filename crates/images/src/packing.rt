@@ -9,8 +9,9 @@ pub struct Counts {
 }
 
 // Refused, a roster at one of its records, which count from 1, or else at 0; slot and value; the slots of the nearest
-// smaller and the nearest larger label, 0 for none; the slot of an update; nothing; how many slots are listed; how many
-// bytes a view has; how many bytes are written; how many labels are loaded; how many records are taken.
+// smaller and the nearest larger label, 0 for none as the paper writes them; the slot of an update; nothing; how many
+// slots are listed; how many bytes a view has; how many bytes are written; how many labels are loaded; how many records
+// are taken.
 #[derive(Clone, Copy, Debug, PartialEq, Eq)]
 pub enum Answer {
     Refused {

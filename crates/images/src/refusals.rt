@@ -47,7 +47,7 @@ impl Refusal {
         self as usize
     }
 
-    // The refusal of a number, where it is one.
+    // The refusal of a number, where it is one: a `TryFrom` would want an error that its one caller drops.
     pub fn from_number(number: usize) -> Option<Refusal> {
         Refusal::ALL
             .iter()

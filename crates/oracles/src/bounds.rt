@@ -4,7 +4,7 @@ use images::memory::{Head, Image};
 use images::packing::Counts;
 
 // The nodes of the smallest height-balanced tree of a height.
-pub fn smallest(height: usize) -> usize {
+fn smallest(height: usize) -> usize {
     let mut nodes = 0usize;
     let mut next = 1usize;
     for _ in 0..height {

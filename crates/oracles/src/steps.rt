@@ -6,8 +6,8 @@ use images::refusals::Refusal;
 use plainmap::labels;
 use std::cmp::Ordering;
 
-// Where the search stands: the numbers P and S, the last nodes where it went right and left, 0 for none, and both
-// counts.
+// Where the search stands: the numbers P and S, the last nodes where it went right and left, 0 for none as the paper
+// writes them, and both counts.
 #[derive(Clone, Copy)]
 struct State {
     p: usize,
@@ -127,6 +127,7 @@ impl State {
 // The last place that a comparison from a place on examines: the first difference, or the shared end.
 fn compared_to(image: &Image, slot: usize, label: &[u8], from: usize) -> usize {
     let last = image.sizes.width.wrapping_add(1);
+    // By place: past a label's end there is no byte, and its number is 0.
     for place in from..last {
         let sought = labels::number_at(label, place);
         if sought == 0 || sought != image.number_at(slot, place) {

@@ -2,7 +2,8 @@
 // share.
 use std::cmp::Ordering;
 
-// The number of a byte: a capital letter's is that of its small letter, any other's the byte plus 1.
+// The number of a byte: a capital letter's is that of its small letter, any other's the byte plus 1. The map's own: no
+// other judge has it.
 fn number_of(byte: u8) -> usize {
     usize::from(byte.to_ascii_lowercase()) + 1
 }

@@ -238,6 +238,7 @@ fn walked(image: &Image, from: usize, sides: u64, steps: u64) -> usize {
     let mut slot = from;
     for step in 1..=numbers::below(steps, 8) {
         let side = (sides >> (step % 8)) % 2;
+        // Of u64 and usize no `From` leads to the other.
         let son = image.field(slot, link(side as usize));
         if son > 0 {
             slot = son;

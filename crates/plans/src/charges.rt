@@ -9,7 +9,7 @@ const STORED: [usize; 9] = [0, 50, 100, 101, 200, 254, 255, 256, 65535];
 
 // The last word of a slot in use, of a freed slot or of one never used becomes a number.
 pub fn change_one(image: &Image, copy: &mut Image, seed: u64) {
-    let draw = numbers::mixed_seed(seed, Field::Charge as usize);
+    let draw = drawn(seed);
     let slot = match numbers::below(draw, 4) {
         0 => Some(changes::slot_by_use(image, seed, Use::Freed)),
         1 => unused(image, draw),
@@ -23,7 +23,7 @@ pub fn change_one(image: &Image, copy: &mut Image, seed: u64) {
 
 // The charge of each slot in use becomes one of its own; or 0, as in a table that was written when no slot had one.
 pub fn change_each(image: &Image, copy: &mut Image, seed: u64) {
-    let draw = numbers::mixed_seed(seed, Field::Charge as usize);
+    let draw = drawn(seed);
     let none = numbers::below(draw, 4) == 0;
     let first = numbers::below(numbers::next(draw), 102);
     for slot in 1..=changes::slots(image) {
@@ -36,6 +36,11 @@ pub fn change_each(image: &Image, copy: &mut Image, seed: u64) {
             copy.put_field(slot, Field::Charge, to);
         }
     }
+}
+
+// The number that these changes draw from: a field's number is part of its seed, as the inputs may not change.
+fn drawn(seed: u64) -> u64 {
+    numbers::mixed_seed(seed, Field::Charge as usize)
 }
 
 // A slot above the high mark.

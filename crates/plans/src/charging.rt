@@ -7,6 +7,7 @@ use samples::{charges, numbers};
 
 // A call that is drawn, or in two of five a charge for its label.
 pub fn or_charge(drawn: Planned, seed: u64) -> Planned {
+    // The call's number is part of the seed: the inputs may not change.
     let draw = numbers::mixed_seed(seed, Call::SetCharge as usize);
     if numbers::below(draw, 5) > 1 {
         return drawn;

@@ -39,7 +39,7 @@ const VALUES: [(u16, usize); 6] = [
 // Counts of labels of 10 bytes with value 0, and the bytes of their file: 12 for each, and one or two before them.
 const COUNTS: [(usize, usize); 3] = [(127, 1525), (128, 1538), (129, 1550)];
 
-// The most tables that a group has.
+// The most tables that a group has; they are asked for by number, as a list of them may be refused its memory.
 pub const TABLES: usize = 6;
 
 impl Group {

@@ -20,7 +20,7 @@ impl Due {
         }
     }
 
-    // The number that stands for it where one is mixed.
+    // The number that stands for it where one is mixed: the numbers drawn are the tests' inputs, which may not change.
     pub fn number(self) -> usize {
         match self {
             Due::Judged => 12,

@@ -22,7 +22,7 @@ pub enum Group {
     Rosters,
 }
 
-// The most files that a group has.
+// The most files that a group has; they are asked for by number, as each is written into the same array.
 pub const FILES: usize = 24;
 
 impl Group {

@@ -11,7 +11,7 @@ use images::packing::Answer;
 use std::io::Stdout;
 
 // What came of a call: its answer, where that and what it left agree, or what differs first; and whether its search
-// reached the bound by shared bytes.
+// reached the bound by shared bytes, which is counted beside a fault too.
 #[derive(Clone, Copy, Debug)]
 pub struct Round {
     pub said: Result<Answer, Fault>,

@@ -1,4 +1,4 @@
-// Numbers that look random, the same in every run.
+// Numbers that look random, the same in every run. Between u64 and usize, which no `From` joins, they go by `as`.
 
 // Where every sequence starts.
 pub const SEED: u64 = 88172645463325252;

@@ -192,7 +192,8 @@ fn quarter(k: usize, i: usize) -> u8 {
     digit as u8
 }
 
-// Byte `i` of a name in a spelling.
+// Byte `i` of a name in a spelling: that is a number, as the label's number has it in its last two bits, and the labels
+// that are drawn by number may not change.
 fn spelled_byte(name: usize, spelling: usize, i: usize) -> u8 {
     let byte = name_byte(name, i);
     if is_capital(spelling, i) {
