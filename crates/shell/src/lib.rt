@@ -4,44 +4,40 @@
 
 pub mod pipes;
 
-use index::Hub;
 use keeps::Line;
 use std::marker::Model;
 use texts::Text;
 
-// What is kept between two reads: the memory of the index, and the line that has begun. An array's length cannot be
-// computed: both are stated.
+// What is kept between two reads: the lent memory of the index, and the line that has begun.
 #[derive(Drop)]
-pub struct Shell {
-    table: [u16; 4100],
-    store: [u8; 32768],
+pub struct Shell<'a> {
+    table: &'a mut [u16],
+    store: &'a mut [u8],
     line: Line,
 }
 
-impl Model for Shell {
+impl<'a> Model for Shell<'a> {
     ghost use Rattle.inputs.specs.Reads.{Shell as Kept};
 
     ghost Value = { Kept };
 
     ghost use Rattle.tables.specs.Written.{lent};
 
-    ghost view = { λ s. record { memory = lent s.table s.store; line = s.line } };
+    ghost view = { λ s. record { memory = lent s.table.now s.store.now; line = s.line } };
 }
 
-impl Shell {
+impl<'a> Shell<'a> {
     ghost use Rattle.std.specs.Prelude.{◌≡◌, ◌+◌, ◌*◌, ◌≤◌, [], length};
+    ghost use Rattle.tables.specs.Written.{lent};
     ghost use Rattle.lines.specs.Commands.{asks};
-    ghost use Rattle.inputs.specs.Inputs.{reply_to, fresh};
+    ghost use Rattle.inputs.specs.Inputs.{reply_to};
     ghost use Rattle.inputs.specs.Reads.{next, after, replied, ended};
     ghost use Rattle.shell.specs.Shells.{progress_of, Says};
 
-    // A fresh table, and no line that has begun.
-    pub fn new() -> Self
-        ensures { result ≡ record { memory = fresh; line = [] } }
+    // The shell over lent memory, with no line that has begun.
+    pub fn new(table: &'a mut [u16], store: &'a mut [u8]) -> Self
+        ensures { result ≡ record { memory = lent table.old store.old; line = [] } }
     {
-        let mut table = [0; 4100];
-        let mut store = [0; 32768];
-        let _ = index::layout::<Hub>(&mut table, &mut store);
         Shell {
             table,
             store,
@@ -91,7 +87,7 @@ impl Shell {
         ensures { Says out.old (replied out.old (reply_to self.old.memory (asks self.old.line)))
             self.new out.new }
     {
-        replies::reply(&mut self.table, &mut self.store, self.line.bytes(), out);
+        replies::reply(self.table, self.store, self.line.bytes(), out);
         self.line = Line::new();
     }
 }

@@ -6,24 +6,32 @@ ghost use Rattle.inputs.specs.Reads.{ended};
 ghost use Rattle.shell.specs.Pipes.{IsShort, Writes, PrintsAll, ReadsOn};
 
 use crate::Shell;
+use index::Hub;
 use std::io;
 use std::io::{Read, Write};
 use texts::Text;
 
-// Answers an input, up to its end, on a fresh table. Where the bytes of both are known, and the input's are fewer than
+// Answers an input, up to its end, on a fresh table. An array's length cannot be computed: both are stated. Where the bytes of both are known, and the input's are fewer than
 // 2^64 - 1, what is written is what the whole input prints.
 pub fn run<R: Read, W: Write>(input: &mut R, output: &mut W) -> io::Result<()>
     ensures { OnOk result (IsShort (R.remaining input.old)
         → PrintsAll (R.remaining input.old)
         (W.contents output.old) (W.contents output.new)) }
 {
-    let mut shell = Shell::new();
+    let mut table = [0; 4100];
+    let mut store = [0; 32768];
+    let _ = index::layout::<Hub>(&mut table, &mut store);
+    let mut shell = Shell::new(&mut table, &mut store);
     answer_all(input, output, &mut shell)
 }
 
 // Answers the whole input. A proved loop has to end, and nothing says that the input does: so the loop counts its
 // turns, up to a number that no run uses up. Each turn but the last reads a byte at least.
-fn answer_all<R: Read, W: Write>(input: &mut R, output: &mut W, shell: &mut Shell) -> io::Result<()>
+fn answer_all<R: Read, W: Write>(
+    input: &mut R,
+    output: &mut W,
+    shell: &mut Shell<'_>,
+) -> io::Result<()>
     ensures { OnOk result (IsShort (R.remaining input.old)
         → Writes (R.remaining input.old) shell.old
         (W.contents output.old) (W.contents output.new)) }
@@ -43,7 +51,7 @@ fn answer_all<R: Read, W: Write>(input: &mut R, output: &mut W, shell: &mut Shel
 fn answer_read<R: Read, W: Write>(
     input: &mut R,
     output: &mut W,
-    shell: &mut Shell,
+    shell: &mut Shell<'_>,
     out: &mut Text<49152>,
 ) -> io::Result<bool>
     ensures more { IfOk result (λ more. IsTrue more
