@@ -10,7 +10,7 @@ use reports::Report;
 use samples::numbers;
 use sheets::names::{Step, Way};
 use sheets::written::Group;
-use sheets::{Sheet, drawn, names, written};
+use sheets::{Sheet, names, written};
 use std::io;
 use std::io::Stdout;
 
@@ -66,9 +66,9 @@ pub fn run_changed(out: Stdout, image: &mut Image, map: &mut PlainMap) -> io::Re
     let mut text = outputs::fresh();
     for i in 0..written::TEXTS {
         let n = write_small(&mut text, i);
-        for at in 0..n {
+        for (at, &found) in text.iter().enumerate().take(n) {
             for way in bytes::Way::ALL {
-                let byte = way.changed(byte_at(&text, at), at);
+                let byte = way.changed(found, at);
                 take_changed(&mut report, image, map, &text, n, at, byte)?;
             }
             for &byte in b"\",\r\n" {
@@ -77,10 +77,6 @@ pub fn run_changed(out: Stdout, image: &mut Image, map: &mut PlainMap) -> io::Re
         }
     }
     tallies::print(&mut report, "one byte changed")
-}
-
-fn byte_at(text: &Output, at: usize) -> u8 {
-    text.get(at).copied().unwrap_or(0)
 }
 
 // Takes a text of so many bytes, one of them another.
@@ -135,13 +131,16 @@ const DRAWN: usize = 3000;
 
 const BY_ONE: usize = 40;
 
-// Takes drawn texts one after the other, with the table emptied now and then.
-pub fn run_drawn(
+// Takes drawn texts one after the other, as they are written, with the table emptied now and then.
+pub fn run_drawn<F: Fn(&mut Output, u64) -> Sheet>(
     out: Stdout,
     image: &mut Image,
     map: &mut PlainMap,
-    changed: bool,
-) -> io::Result<()> {
+    title: &str,
+    write: F,
+) -> io::Result<()>
+    requires { F.IsAlwaysCallable write }
+{
     let mut report = Report::new(out);
     let mut seed = numbers::SEED;
     for i in 0..DRAWN {
@@ -150,17 +149,8 @@ pub fn run_drawn(
         }
         seed = numbers::next(seed);
         let mut text = outputs::fresh();
-        let sheet = if changed {
-            drawn::write_changed(&mut text, seed)
-        } else {
-            drawn::write(&mut text, seed)
-        };
+        let sheet = write(&mut text, seed);
         takings::made(&mut report, image, map, &text, sheet)?;
     }
-    let title = if changed {
-        "drawn, one byte changed"
-    } else {
-        "drawn"
-    };
     tallies::print(&mut report, title)
 }

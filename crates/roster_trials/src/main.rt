@@ -14,6 +14,7 @@ mod tallies;
 use images::memory::Image;
 use images::sizes::Sizes;
 use plainmap::PlainMap;
+use sheets::drawn;
 use sheets::written::Group;
 use std::io;
 
@@ -28,8 +29,14 @@ fn main(rt: HostRuntime) -> io::Result<()> {
     groups::run_cut(out, &mut image, &mut map)?;
     groups::run_changed(out, &mut image, &mut map)?;
     groups::run_names(out, &mut image, &mut map)?;
-    groups::run_drawn(out, &mut image, &mut map, false)?;
-    groups::run_drawn(out, &mut image, &mut map, true)?;
+    groups::run_drawn(out, &mut image, &mut map, "drawn", drawn::write)?;
+    groups::run_drawn(
+        out,
+        &mut image,
+        &mut map,
+        "drawn, one byte changed",
+        drawn::write_changed,
+    )?;
     damage::run(out, &mut image, &mut map)?;
     damage::run_lent(out, &mut image, &mut map)
 }

@@ -40,7 +40,7 @@ pub enum Group {
     Small,
 }
 
-// The most texts of a group.
+// The most texts of a group; they are asked for by number, as each is written into the same array.
 pub const TEXTS: usize = 64;
 
 impl Group {
