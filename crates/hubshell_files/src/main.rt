@@ -5,11 +5,10 @@ use std::io::Write;
 use std::{fs, io};
 
 fn main(rt: HostRuntime) -> io::Result<()> {
-    answer(rt, "empty")?;
-    answer(rt, "newline")?;
-    answer(rt, "newlines")?;
-    answer(rt, "ended")?;
-    answer(rt, "unended")
+    for name in ["empty", "newline", "newlines", "ended", "unended"] {
+        answer(rt, name)?;
+    }
+    Ok(())
 }
 
 // Prints a file's name, and what `hubshell` prints for it.

@@ -44,7 +44,7 @@ charge_by_square n other = square_test n ∙ go (leb n 100)
 abbrev left_of : (w len : ℕ) → ℕ
 left_of w len = (w + (18446744073709551616 - len)) % 18446744073709551616
 
-pub rest_within : (w len : ℕ) → w ≤ 4096 → len < 65536 → left_of w len < w → (1 ≤ len) × (len ≤ w)
+pub rest_within : (w len : ℕ) → w ≤ 4096 → len < 18446744073709551616 → left_of w len < w → (1 ≤ len) × (len ≤ w)
 rest_within w len small short less = (omega arith, omega arith)
 
 rest_beyond : (w len : ℕ) → w ≤ 4096 → w ≤ left_of w len → 1 ≤ len → len ≤ w → ⊥

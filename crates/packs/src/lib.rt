@@ -10,7 +10,7 @@ ghost use Rattle.packs.specs.Packed.{parts, packed, packed_save, packed_load, pa
 
 use types::{Refusal, RefusedRecord, Searched, Updated};
 
-// The five numbers of an answer in one, each cut to its bits.
+// The five numbers of an answer in one, each cut to its bits. The kinds are numbers of the C interface.
 pub fn packed(kind: usize, places: usize, visits: usize, one: usize, other: usize) -> usize
     ensures { result ≡ parts kind places visits one other }
 {
@@ -52,7 +52,7 @@ pub fn packed_search(said: Result<Searched, Refusal>) -> usize
     }
 }
 
-// An insert's or a delete's answer in one number.
+// An insert's, a delete's or a charge set's answer in one number.
 pub fn packed_update(said: Result<Updated, Refusal>) -> usize
     ensures { result ≡ packed (update_says said) }
 {

@@ -7,8 +7,7 @@ use std::io::{Read, Write};
 use texts::Text;
 
 // Prints for the text of an input: where the bytes of both are known, what is written is the printout of the whole
-// text. A text is read up to one byte above the longest that is taken, so that a longer one
-// is refused.
+// text. A text is read up to one byte above the longest that is taken, so that a longer one is refused.
 pub fn run<R: Read, W: Write>(input: &mut R, output: &mut W) -> io::Result<()>
     ensures { OnOk result (PrintsAll (R.remaining input.old)
         (W.contents output.old) (W.contents output.new)) }

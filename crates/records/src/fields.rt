@@ -42,6 +42,7 @@ fn textdata_len(text: &[u8]) -> usize
 fn quoted(text: &[u8]) -> Option<Field<'_>>
     ensures { field_says result ≡ quoted_field text.now }
 {
+    // No iterator: an item has one byte or two, and what is left after the last one is read on.
     let mut rest = text;
     let mut len = 0;
     while let Some(more) = after_inner(rest) {

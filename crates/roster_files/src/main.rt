@@ -5,10 +5,10 @@ use std::io::Write;
 use std::{fs, io};
 
 fn main(rt: HostRuntime) -> io::Result<()> {
-    print(rt, "empty")?;
-    print(rt, "unended")?;
-    print(rt, "bare_lf")?;
-    print(rt, "respelled")
+    for name in ["empty", "unended", "bare_lf", "respelled"] {
+        print(rt, name)?;
+    }
+    Ok(())
 }
 
 // Prints a file's name, and what `roster` prints for it.

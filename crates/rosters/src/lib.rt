@@ -86,6 +86,7 @@ fn insert_records(
         (roster_from limits 0 (records_of text.now) (lent table.old store.old))
         (roster_says result) table.new store.new }
 {
+    // No iterator: where a record ends is known by its insert, and the first refusal ends the loop with its number.
     let mut rest = text;
     let mut count = 0;
     while !rest.is_empty() {

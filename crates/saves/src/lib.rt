@@ -68,7 +68,8 @@ pub fn count_from(
     before + (own + after)
 }
 
-// Writes the entries at a link, at most `remaining` nodes deep, from a position of the output on, and gives the next.
+// Writes the entries at a link, at most `remaining` nodes deep, from a position of the output on, and gives the next: a
+// walk of its own, as `count_from` says.
 pub fn write_from(
     limits: Limits,
     table: &[u16],

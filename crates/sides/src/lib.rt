@@ -15,7 +15,7 @@ pub struct Balances {
     pub upper: u16,
 }
 
-// The prefix fields of a node.
+// The prefix fields of a node, both words of the table's format.
 #[derive(Clone, Copy, Debug, PartialEq, Eq)]
 pub struct Fields {
     pub place: u16,

@@ -4,7 +4,8 @@
 pub mod tracing;
 
 // Where a search ended: the slot found, 0 for none; the numbers P and S of the search steps; the slots of the nearest
-// smaller and larger node on the way, 0 for none; the way, a bit for each side taken; and the counts.
+// smaller and larger node on the way, 0 for none; the way, a bit for each side taken; and the counts. Slots are links as
+// the table has them, so 0 is none and there is no Option.
 #[derive(Clone, Copy)]
 pub struct Trace {
     pub found: u16,
