@@ -69,12 +69,12 @@ fn change_each(
     file: &Output,
     n: usize,
 ) -> io::Result<()> {
-    // By place, at which a copy is changed.
-    for at in 0..n.min(outputs::ALL) {
+    for (at, &found) in file.iter().enumerate().take(n) {
         for way in Way::ALL {
-            let mut copy = *file;
-            copy[at] = way.changed(file[at], at);
-            if copy != *file {
+            let byte = way.changed(found, at);
+            if byte != found {
+                let mut copy = *file;
+                copy[at] = byte;
                 report.tally.changes.add(1);
                 loading::tried(report, image, &copy, n, Due::Judged)?;
             }
