@@ -49,7 +49,8 @@ pub fn difference_below(
     difference_place(label_in(limits, table, store, below), label)
 }
 
-// The difference place of a label with the node in the slot above, 0 for none.
+// The difference place of a label with the node in the slot above, 0 for none. Beside the one below the labels stand the
+// other way round and only one needs a bound: a side as one more argument would be no plainer.
 pub fn difference_above(
     limits: Limits,
     table: &[u16],

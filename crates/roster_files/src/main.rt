@@ -11,7 +11,8 @@ fn main(rt: HostRuntime) -> io::Result<()> {
     Ok(())
 }
 
-// Prints a file's name, and what `roster` prints for it.
+// Prints a file's name, and what `roster` prints for it. As in `hubshell_files`: a crate for this frame would be
+// longer than it is.
 fn print(rt: HostRuntime, name: &str) -> io::Result<()> {
     let mut output = rt.stdout();
     output.write_all(name.as_bytes())?;

@@ -14,7 +14,8 @@ pub fn part_start(limits: Limits, slot: usize) -> usize
     limits.width * (slot - 1)
 }
 
-// The label in a slot, by its length.
+// The label in a slot, by its length. It reads with no test and lends a part whose start is known; `total::label_at` takes
+// any store and cuts the label to it: one for both would test here.
 pub fn label_at(limits: Limits, store: &[u8], slot: usize, len: usize) -> &[u8]
     requires { LabelInside limits store.now slot len }
     ensures { Shows limits store.entry slot len result }
