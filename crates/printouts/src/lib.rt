@@ -51,13 +51,13 @@ fn put_last<const N: usize>(out: &mut Text<N>, number: usize)
 }
 
 // Puts the line of a label with its slot and its value.
-#[tactic(auto, unfolding(crate::specs::Printouts::line_with))]
+#[tactic(auto, unfolding(crate::specs::Printouts::line_with, texts::specs::Texts::decimal))]
 pub fn put_line<const N: usize>(slot: u16, value: u16, label: &[u8], out: &mut Text<N>)
     requires label_len_bound { length label.now ≤ hub.width }
     requires line_room_in_bounds { length out.old + line_room ≤ N }
     ensures { Puts out.old (line_with slot value label.now) line_room out.new }
 {
-    out.put_decimal(slot as usize);
+    out.put_digits(20, slot as usize);
     out.put_number(value as usize);
     put_label(label, out);
 }

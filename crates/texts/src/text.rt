@@ -19,7 +19,7 @@ impl<const N: usize> Model for Text<N> {
 
 impl<const N: usize> Text<N> {
     ghost use Rattle.std.specs.Prelude.{◌≡◌, ◌≤◌, ◌+◌, [], length};
-    ghost use Rattle.texts.specs.Texts.{decimal, then_number};
+    ghost use Rattle.texts.specs.Texts.{decimal_with, then_number};
     ghost use Rattle.texts.specs.Puts.{Puts};
 
     // No byte is put.
@@ -53,21 +53,23 @@ impl<const N: usize> Text<N> {
         let _ = self.bytes.try_extend_from_slice(bytes);
     }
 
-    // Puts the digits of a number.
-    pub fn put_decimal(&mut self, number: usize)
-        requires { length self.old + 20 ≤ N }
-        ensures { Puts self.old (decimal number) 20 self.new }
+    // Puts the digits of a number, at most so many: the last ones.
+    pub fn put_digits(&mut self, digits: usize, number: usize)
+        requires { length self.old + digits ≤ N }
+        ensures { Puts self.old (decimal_with digits number) digits self.new }
     {
-        let mut digits = Buffer::new();
-        self.put(digits.format(number).as_bytes());
+        let mut buffer = Buffer::new();
+        let text = buffer.format(number).as_bytes();
+        self.put(&text[text.len().saturating_sub(digits)..]);
     }
 
     // Puts a space and a number.
+    #[tactic(auto, unfolding(crate::specs::Texts::decimal))]
     pub fn put_number(&mut self, number: usize)
         requires { length self.old + 21 ≤ N }
         ensures { Puts self.old (then_number number) 21 self.new }
     {
         self.put(b" ");
-        self.put_decimal(number);
+        self.put_digits(20, number);
     }
 }
