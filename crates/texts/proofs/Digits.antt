@@ -34,10 +34,10 @@ last_digits : (k n : ℕ) → n < 2 ^ 64 → last k (std.decimal n) ≡ decimal_
 last_digits k n small =
     decimal_by_steps (λ m ds. (j : ℕ) → last j ds ≡ decimal_with j m) one_digit more_digits n small k
 
--- the last digits that the library gives are those of a number
-pub digits_put : {before text after : List ℕ} (k n : ℕ) → n < 2 ^ 64 → text ≡ std.decimal n
+-- the last digits that the library gives of an equal number are those of the number
+pub digits_put : {before text after : List ℕ} {m : ℕ} (k n : ℕ) → n < 2 ^ 64 → text ≡ std.decimal m → m ≡ n
     → Puts before (last k text) (length (last k text)) after → Puts before (decimal_with k n) k after
-digits_put {before} {text} k n small is puts = record {
-  text = puts.text ∙ ap (λ (b : List ℕ). before ++ b) (ap (last k) is ∙ last_digits k n small);
+digits_put {before} {text} k n small is same puts = record {
+  text = puts.text ∙ ap (λ (b : List ℕ). before ++ b) (ap (last k) (is ∙ ap std.decimal same) ∙ last_digits k n small);
   room = omega (arith, puts.room, length-drop (length text - k) text);
 }

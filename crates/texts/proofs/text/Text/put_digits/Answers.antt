@@ -11,4 +11,5 @@ returns g c =
     let same = take_all (length text - at) (drop at text) (omega (arith, length-drop at text))
     ∙ ap (λ i. drop i text) c.saturating_sub.ensures in
     digits_put c.args.digits c.args.number (omega arith) (c.as_bytes-text.ensures.value ∙ c.format.ensures.text)
+    (omega arith)
     (subst (λ b. Puts c.args.self.now b (length b) c.put.new.self) same c.put.ensures)
