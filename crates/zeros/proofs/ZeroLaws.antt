@@ -2,7 +2,7 @@
 -- `gathered_zero`: numbers are zero where the number of all their bits is. `list_all_zero`: tested one after the other.
 -- `chunks_broken`, `chunks_passed`: a list is zero where its chunks are, and what they leave.
 -- `last_settles`: where it is as its end from an index on, an end that begins before settles it.
--- `last_decides`: the last eight of bytes whose eights are zero.
+-- `last_decides`: so do the last n, where the chunks of n are zero.
 use Prim.Native.Nat.{ℕ, zero, suc, ◌+◌, ◌-◌, ◌*◌, ◌/◌, ◌≤◌}
 use mathlib.Core.Path.{◌≡◌, refl, sym, ap, ◌∙◌}
 use mathlib.Core.List.{List, [], ◌∷◌, ◌++◌}
@@ -94,15 +94,13 @@ last_settles xs i j before e = go (all_zero (drop i xs)) refl
         sym ((both_true (all_zero (take (j - i) (drop i xs))) _).0 (sym rest ∙ is)).1 ∙ rw (drop-drop (j - i) i xs, step) (sym e)
     go false is = sym (split_zeros i xs ∙ rw is (both_false (all_zero (take i xs))))
 
--- ---- bytes tested by eight, and the last eight again
-
--- the last eight decide
-pub last_decides : (xs last : List ℕ) (eights : List (List ℕ)) (b c : Bool)
-    → eights ≡ first_chunks 8 (length xs / 8) xs → b ≡ list_all all_zero eights → b ≡ true
-    → last ≡ drop (length xs - 8) xs → c ≡ all_zero last → c ≡ all_zero xs
-last_decides xs last eights b c front b_tests passed e c_tests =
-    let late : length xs - 8 ≤ length xs / 8 * 8 = omega arith in
+-- the last n decide, where the chunks of n are zero
+pub last_decides : (n : ℕ) (xs last : List ℕ) (chunks : List (List ℕ)) (b c : Bool)
+    → length xs - n ≤ length xs / n * n
+    → chunks ≡ first_chunks n (length xs / n) xs → b ≡ list_all all_zero chunks → b ≡ true
+    → last ≡ drop (length xs - n) xs → c ≡ all_zero last → c ≡ all_zero xs
+last_decides n xs last chunks b c late front b_tests passed e c_tests =
     c_tests
     ∙ ap all_zero e
-    ∙ last_settles xs (length xs - 8) (length xs / 8 * 8) late
-    (sym (chunks_passed 8 (length xs / 8) xs b (b_tests ∙ ap (list_all all_zero) front) passed))
+    ∙ last_settles xs (length xs - n) (length xs / n * n) late
+    (sym (chunks_passed n (length xs / n) xs b (b_tests ∙ ap (list_all all_zero) front) passed))

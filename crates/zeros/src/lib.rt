@@ -12,7 +12,8 @@ fn block_zero<const N: usize>(block: &[u8; N]) -> bool
     block.iter().fold(0, |bits, &b| bits | b) == 0
 }
 
-// Whether all blocks are.
+// Whether all blocks are. Inlined, as `bytes_zero` is: else each node's test spills what it holds, for a call.
+#[inline(always)]
 fn blocks_zero<const N: usize>(blocks: &[[u8; N]]) -> bool
     ensures { result ≡ list_all all_zero blocks.now }
 {
@@ -26,23 +27,21 @@ fn row_zero(row: &[u16; 8]) -> bool
     row.iter().fold(0, |bits, &word| bits | word) == 0
 }
 
-// Whether the bytes of a part's end are zero: by eight, and at last the last eight, of which some have been tested then.
-pub fn end_zero(bytes: &[u8]) -> bool
-    ensures { result ≡ all_zero bytes.now }
-{
-    let Some(last) = bytes.last_chunk::<8>() else {
-        return bytes.iter().all(|&b| b == 0);
-    };
-    let (eights, _) = bytes.as_chunks::<8>();
-    blocks_zero(eights) && block_zero(last)
-}
-
-// Whether all bytes are zero: by thirty-two, and those that are left as an end.
+// Whether all bytes are zero: by sixteen, or by eight where there are fewer, and at last the last sixteen or eight,
+// of which some have been tested then.
+#[inline(always)]
 pub fn bytes_zero(bytes: &[u8]) -> bool
     ensures { result ≡ all_zero bytes.now }
 {
-    let (blocks, tail) = bytes.as_chunks::<32>();
-    blocks_zero(blocks) && end_zero(tail)
+    let Some(last_eight) = bytes.last_chunk::<8>() else {
+        return bytes.iter().all(|&b| b == 0);
+    };
+    let Some(last) = bytes.last_chunk::<16>() else {
+        let (eights, _) = bytes.as_chunks::<8>();
+        return blocks_zero(eights) && block_zero(last_eight);
+    };
+    let (blocks, _) = bytes.as_chunks::<16>();
+    blocks_zero(blocks) && block_zero(last)
 }
 
 // Whether all words are zero: by eight, and the last ones one by one.
