@@ -11,8 +11,8 @@ use std::io;
 use std::io::{Read, Write};
 use texts::Text;
 
-// Answers an input, up to its end, on a fresh table. An array's length cannot be computed: both are stated. Where the bytes of both are known, and the input's are fewer than
-// 2^64 - 1, what is written is what the whole input prints.
+// Answers an input, up to its end, on a fresh table. An array's length cannot be computed: both are stated. Where the
+// bytes of both are known, and the input's are fewer than 2^64 - 1, what is written is what the whole input prints.
 pub fn run<R: Read, W: Write>(input: &mut R, output: &mut W) -> io::Result<()>
     ensures { OnOk result (IsShort (R.remaining input.old)
         → PrintsAll (R.remaining input.old)
