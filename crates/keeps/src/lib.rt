@@ -1,24 +1,34 @@
 // The line of an input that has begun, kept while its bytes come.
 #![tactic(auto)]
 
-use arrayvec::ArrayVec;
 use std::marker::Model;
 
 // The bytes that are kept of a line: one above 80 bytes asks nothing.
 pub const ROOM: usize = 81;
 
-// What is kept of the line: its first bytes.
-#[derive(Drop)]
+// What is kept of the line: its first bytes. The bytes behind them are 0.
+#[derive(Clone, Copy)]
 pub struct Line {
-    bytes: ArrayVec<u8, ROOM>,
+    bytes: [u8; ROOM],
+    len: usize,
 }
 
 impl Model for Line {
-    ghost use Rattle.std.specs.Prelude.{List, ℕ};
+    ghost use Rattle.std.specs.Prelude.{List, ℕ, length, take};
+    ghost use Rattle.keeps.specs.Padded.{padded, Padded, padded_again, length_again};
 
     ghost Value = { List ℕ };
 
-    ghost view = { λ line. line.bytes.items };
+    ghost view = { λ line. take line.len line.bytes };
+
+    ghost invariant = { λ line. Padded line.bytes line.len };
+
+    ghost inverse = { λ line. record { bytes = padded line; len = length line } };
+
+    ghost inverse_ok = { λ line holds i. record {
+      bytes = padded_again line.bytes line.len holds i;
+      len = length_again line.bytes line.len holds i;
+    } };
 }
 
 impl Line {
@@ -30,7 +40,8 @@ impl Line {
         ensures { result ≡ [] }
     {
         Line {
-            bytes: ArrayVec::new(),
+            bytes: [0; ROOM],
+            len: 0,
         }
     }
 
@@ -38,8 +49,9 @@ impl Line {
     pub fn push(&mut self, byte: u8)
         ensures { self.new ≡ kept self.old byte }
     {
-        if !self.bytes.is_full() {
-            self.bytes.push(byte);
+        if self.len < ROOM {
+            self.bytes[self.len] = byte;
+            self.len += 1;
         }
     }
 
@@ -47,6 +59,6 @@ impl Line {
     pub fn bytes(&self) -> &[u8]
         ensures { result.now ≡ self.now }
     {
-        self.bytes.as_slice()
+        &self.bytes[..self.len]
     }
 }
