@@ -32,8 +32,8 @@ impl Model for Line {
 }
 
 impl Line {
-    ghost use Rattle.std.specs.Prelude.{◌≡◌, []};
-    ghost use Rattle.inputs.specs.Reads.{kept};
+    ghost use Rattle.std.specs.Prelude.{◌≡◌, ◌≤◌, [], length};
+    ghost use Rattle.inputs.specs.Reads.{room, kept};
 
     // No line has begun.
     pub fn new() -> Self
@@ -55,9 +55,10 @@ impl Line {
         }
     }
 
-    // The bytes that are kept.
+    // The bytes that are kept: at most as many as there is room for.
     pub fn bytes(&self) -> &[u8]
-        ensures { result.now ≡ self.now }
+        ensures value { result.now ≡ self.now }
+        ensures within { length result.now ≤ room }
     {
         &self.bytes[..self.len]
     }
