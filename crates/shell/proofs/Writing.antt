@@ -1,7 +1,8 @@
 -- What is written for what is read.
---     writes_on         some bytes are read before the others
---     TurnsFit          there were no more turns than bytes read, where those are known
---     turns_on          and so it stays when one more turn reads on
+--     next_said          what was said before goes before what a byte says
+--     writes_on          some bytes are read before the others
+--     TurnsFit           there were no more turns than bytes read, where those are known
+--     turns_on           and so it stays when one more turn reads on
 --     prints_from_fresh  from the fresh table on it is what the whole input prints
 use mathlib.Core.Path.{◌≡◌, refl, ap, sym, ◌∙◌}
 use mathlib.Core.Bool.{Bool, true, false, cond}
@@ -20,10 +21,10 @@ use Rattle.inputs.proofs.ReadsPrint.{reads_print}
 use Rattle.shell.specs.Pipes.{IsShort, Writes, PrintsAll, ReadsOn}
 
 -- what was said before goes before what is said later
-abbrev said : List ℕ → Progress → Progress
+abbrev pub said : List ℕ → Progress → Progress
 said text p = record { text = text ++ p.text; shell = p.shell }
 
-next_said : (text : List ℕ) (p : Progress) (byte : ℕ) → next (said text p) byte ≡ said text (next p byte)
+pub next_said : (text : List ℕ) (p : Progress) (byte : ℕ) → next (said text p) byte ≡ said text (next p byte)
 unfolding next
 next_said text p byte = by_test (eqb byte 10)
   where
@@ -34,7 +35,10 @@ next_said text p byte = by_test (eqb byte 10)
         (cond test (replied p.text (reply_to p.shell.memory (asks p.shell.line)))
         (record { text = p.text; shell = record { memory = p.shell.memory; line = kept p.shell.line byte } }))
     by_test true =
-        ap (λ (t : List ℕ). record { text = t; shell = (replied p.text (reply_to p.shell.memory (asks p.shell.line))).shell })
+        ap (λ (t : List ℕ). record {
+          text = t;
+          shell = (replied p.text (reply_to p.shell.memory (asks p.shell.line))).shell;
+        })
         (append_assoc text p.text (reply_to p.shell.memory (asks p.shell.line)).text)
     by_test false = refl
 

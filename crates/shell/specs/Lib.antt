@@ -1,2 +1,3 @@
 pub mod Shells
+pub mod Lent
 pub mod Pipes

@@ -1,6 +1,11 @@
 -- How the contracts of the shell say what is kept and what was said.
 use Rattle.std.specs.Prelude.{◌≡◌, List, ℕ, ◌+◌, ◌≤◌, length}
+use Rattle.tables.specs.Written.{lent}
 use Rattle.inputs.specs.Reads.{Shell, Progress}
+
+-- lent memory, and the line that has begun
+abbrev pub shell_of : (table store line : List ℕ) → Shell
+shell_of table store line = record { memory = lent table store; line = line }
 
 -- a text, with what is kept
 abbrev pub progress_of : Shell → (out : List ℕ) → Progress
