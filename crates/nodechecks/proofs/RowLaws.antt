@@ -1,10 +1,11 @@
 -- The tests of a slot's row and of its part of the store.
 -- `part_inside`, `part_tested`: the part lies in the store, and is tested.
 -- `rest_within`: a length that leaves less than the width is 1 to the width.
+-- `left_wraps`, `left_within`: the same of a wrapping difference.
 -- `charge_unknown`, `charge_by_square`: the test of a charge.
 -- `used_length`, `used_bytes`, `used_charge`: the test of a slot in use.
 -- `used_short`: the label of a slot in use lies in its part.
-use Rattle.std.proofs.Common.{◌≡◌, ℕ, ◌+◌, ◌*◌, ◌%◌, ◌<◌, ◌≤◌, Bool, true, false, ◌&&◌, ◌||◌, eqb, leb, List, drop, sym, refl, ◌∙◌, mul-le-mul_left, arith, take, length, ◌-◌, length-drop, Bor, ne_eqb, le-leb, leb-true}
+use Rattle.std.proofs.Common.{◌≡◌, ℕ, ◌+◌, ◌*◌, ◌%◌, ◌^◌, ◌<◌, ◌≤◌, Bool, true, false, ◌&&◌, ◌||◌, eqb, leb, List, drop, sym, refl, ◌∙◌, mul-le-mul_left, arith, take, length, ◌-◌, length-drop, Bor, ne_eqb, le-leb, leb-true}
 use native.Mathlib.Decide.{dec_le}
 use lib.Seq.{take_all}
 use borrow.Author.Tests.{lt-leb}
@@ -41,14 +42,21 @@ charge_by_square n other = square_test n ∙ go (leb n 100)
     go false = sym (ne_eqb n unknown other)
 
 -- what a length leaves of the width, modulo 2^64, is less than the width exactly where it is 1 to the width
+pub rest_within : (r len w : ℕ) → (r + len) % 2 ^ 64 ≡ w → w ≤ 4096 → len < 2 ^ 64 → r < w → (1 ≤ len) × (len ≤ w)
+rest_within r len w wraps small short less = (omega arith, omega arith)
+
+rest_beyond : (r len w : ℕ) → (r + len) % 2 ^ 64 ≡ w → r < 2 ^ 64 → w ≤ r → 1 ≤ len → len ≤ w → ⊥
+rest_beyond r len w wraps fits more some short = omega arith
+
+-- a wrapping difference is such a rest
 abbrev left_of : (w len : ℕ) → ℕ
-left_of w len = (w + (18446744073709551616 - len)) % 18446744073709551616
+left_of w len = (w + (2 ^ 64 - len)) % 2 ^ 64
 
-pub rest_within : (w len : ℕ) → w ≤ 4096 → len < 18446744073709551616 → left_of w len < w → (1 ≤ len) × (len ≤ w)
-rest_within w len small short less = (omega arith, omega arith)
+pub left_wraps : (w len : ℕ) → w ≤ 4096 → len < 2 ^ 64 → (left_of w len + len) % 2 ^ 64 ≡ w
+left_wraps w len small short = omega arith
 
-rest_beyond : (w len : ℕ) → w ≤ 4096 → w ≤ left_of w len → 1 ≤ len → len ≤ w → ⊥
-rest_beyond w len small more some short = omega arith
+pub left_within : (w len : ℕ) → w ≤ 4096 → len < 2 ^ 64 → left_of w len < w → (1 ≤ len) × (len ≤ w)
+left_within w len small short = rest_within _ len w (left_wraps w len small short) small short
 
 -- the part lies in the store
 pub part_inside : (limits : Limits) (store : List ℕ) (k first : ℕ) → PartFits limits store k first
@@ -67,17 +75,17 @@ part_tested limits store part k first r shows e =
 
 module _ (limits : Limits) (store : List ℕ) (k : ℕ) (row : Row) where
   -- a slot in use has a length of 1 to the width
-  pub used_length : limits.width ≤ 4096 → limits.width ≤ left_of limits.width row.len
+  pub used_length : (r : ℕ) → (r + row.len) % 2 ^ 64 ≡ limits.width → r < 2 ^ 64 → limits.width ≤ r
       → false ≡ used_row limits store k row
   unfolding used_row
-  used_length small more = go (dec_le 1 row.len) (dec_le row.len limits.width)
+  used_length r wraps fits more = go (dec_le 1 row.len) (dec_le row.len limits.width)
     where
       go : Dec (1 ≤ row.len) → Dec (row.len ≤ limits.width)
           → false ≡ (leb 1 row.len && (leb row.len limits.width
           && (is_charge row.charge && all_zero (drop row.len (part_at limits store k)))))
       go (no none) short = rw (lt-leb 1 row.len (omega arith))
       go (yes some) (no long) = rw (le-leb 1 row.len some, lt-leb row.len limits.width (omega arith))
-      go (yes some) (yes short) = absurd (rest_beyond limits.width row.len small more some short)
+      go (yes some) (yes short) = absurd (rest_beyond r row.len limits.width wraps fits more some short)
 
   -- the bytes after the label's end are zero
   pub used_bytes : (t : Bool) → 1 ≤ row.len → row.len ≤ limits.width
