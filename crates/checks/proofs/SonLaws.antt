@@ -1,4 +1,5 @@
 -- The walk at a node and at its sons.
+-- `node_short`: the label of a node that passes lies in its part of the store.
 -- `tree_outside`, `tree_wrong`: a link out of range, or a node that fails its test, makes the subtree unsound.
 -- `window_left`, `window_right`: the walk may go on at the sons, with the node's slot in their windows.
 -- `tree_left_unsound`, `tree_right_unsound`, `tree_over`: what the sons give.
@@ -50,7 +51,7 @@ places true i j gaps e = record { passed = refl; below = cc; above = cc }
 places false i j gaps e = cc
 
 -- a node that passes has a label that lies in its part of the store
-node_short : (limits : Limits) (table store : List ℕ) (k : ℕ) (p s : Neighbour)
+pub node_short : (limits : Limits) (table store : List ℕ) (k : ℕ) (p s : Neighbour)
     → node_fine limits table store k p s ≡ true → (row_at table k).len ≤ limits.width
 unfolding node_fine used_row
 node_short limits table store k p s e =
