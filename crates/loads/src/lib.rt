@@ -52,8 +52,7 @@ fn load_ready(
 {
     let size = scans::groups::take(file, 0, 0, limits.slots).ok_or(Refusal::BrokenFile)?;
     scans::scan(limits, file, size.next, size.n)?;
-    table.fill(0);
-    store.fill(0);
+    layouts::clear(table, store);
     insert_entries(limits, table, store, file, size.next, size.n);
     Ok(size.n)
 }
