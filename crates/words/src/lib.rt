@@ -9,7 +9,7 @@ pub mod total;
 
 ghost use Rattle.std.specs.Prelude.{◌≡◌, ℕ, ◌<◌};
 ghost use Rattle.tables.specs.Words.{row_at};
-ghost use Rattle.words.specs.Rows.{RowBy, HasRow};
+ghost use Rattle.words.specs.Rows.{put_row, RowBy, HasRow};
 
 use types::Row;
 
@@ -38,4 +38,21 @@ pub fn read_row(table: &[u16], slot: usize) -> Row
 {
     let base = 4 + 8 * (slot - 1);
     row_by(|i| table[base + i])
+}
+
+// Stores the row of a slot; every other word stays.
+#[tactic(auto, unfolding(crate::specs::Rows::put_row))]
+pub fn write_row(table: &mut [u16], slot: usize, row: Row)
+    requires { HasRow table.old slot }
+    ensures { table.new ≡ put_row table.old slot row }
+{
+    let base = 4 + 8 * (slot - 1);
+    table[base] = row.left;
+    table[base + 1] = row.right;
+    table[base + 2] = row.place;
+    table[base + 3] = row.side;
+    table[base + 4] = row.balance;
+    table[base + 5] = row.len;
+    table[base + 6] = row.value;
+    table[base + 7] = row.charge;
 }
