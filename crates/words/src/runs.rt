@@ -6,7 +6,9 @@ pub fn put_bytes(output: &mut [u8], at: usize, bytes: &[u8]) -> usize
     requires { HasRoom bytes.now at output.old }
     ensures { Filled bytes.now output.old at output.new result }
 {
-    let end = at + bytes.len();
-    output[at..end].copy_from_slice(bytes);
-    end
+    // No `copy_from_slice`: the archives for C would need `memmove` from outside.
+    for i in 0..bytes.len() {
+        output[at + i] = bytes[i];
+    }
+    at + bytes.len()
 }

@@ -1,7 +1,7 @@
 use mathlib.Core.Path.{refl}
 use native.Mathlib.Omega.{arith}
 use Rattle.files.proofs.GroupLaws.{groups_of_lower, groups_of_last, some_group}
-use Rattle.entries.proofs.Filling.{left_less, left_none, left_room}
+use Rattle.words.proofs.Filling.{left_less, left_none, left_room}
 use Rattle.entries.proofs.groups.put.Goals as goal
 
 pub bounds-output-next : goal.bounds-output-next

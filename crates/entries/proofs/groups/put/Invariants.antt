@@ -1,7 +1,7 @@
 -- `entries::groups::put` meets its contract. The invariant: the groups of what is left of the number, from the next
 -- position on, are what is left to write. The measure is what is left of the number.
 use Rattle.files.specs.Groups.{groups_of}
-use Rattle.entries.proofs.Filling.{Left}
+use Rattle.words.proofs.Filling.{Left}
 use Rattle.entries.proofs.groups.put.Given as goal
 
 abbrev pub invariant-loop-rest : goal.invariant-loop-rest

@@ -1,13 +1,13 @@
 -- A run that is written element by element: what is left of it, at the next position, is the whole of it at the first.
 -- `left_all`: before the first element. `left_less`: after one more. `left_none`: after the last.
--- `left_room`: there is room for what is left.
+-- `left_room`: there is room for what is left. `drop_one`: an element is left, and those after it.
 use mathlib.Core.List.{List, [], ◌∷◌}
 use mathlib.Core.Path.{◌≡◌, refl, sym, ap, ◌∙◌}
-use Prim.Native.Nat.{ℕ, suc, ◌+◌}
+use Prim.Native.Nat.{ℕ, suc, ◌+◌, ◌<◌}
 use native.Mathlib.Numerals.{add-one}
 use native.Mathlib.Omega.{arith}
-use lib.ListN.{length, set, length-set}
-use lib.Seq.{sets}
+use lib.ListN.{length, get_or, drop, set, length-set}
+use lib.Seq.{sets, drop-cons}
 use Rattle.words.specs.Filled.{Filled, HasRoom}
 
 -- of a whole to be written into a list from a position on, a run is left, for the list as it is and the next position
@@ -45,3 +45,7 @@ module _ {whole before : List ℕ} {at : ℕ} {list : List ℕ} {next : ℕ} whe
   pub left_room : (run : List ℕ) → Left whole before at run list next → HasRoom whole at before
       → HasRoom run next list
   left_room run left room = omega (arith, left.end_left, left.same_length)
+
+-- An element is left, and those after it.
+pub drop_one : (run : List ℕ) (i : ℕ) → i < length run → drop i run ≡ get_or run i 0 ∷ drop (i + 1) run
+drop_one run i below = rw (add-one, drop-cons run i 0)
