@@ -32,7 +32,14 @@ pub fn with_label(limits: Limits, table: &[u16], store: &[u8], label: &[u8]) -> 
         ≡ of_memory limits table.now store.now (of_label limits label.now pass) }
 {
     of_memory(limits, table, store)?;
-    of_length(limits, label.len())
+    // Not by `of_length`: a call that answers first costs each search five instructions more.
+    if label.is_empty() {
+        return Err(Refusal::EmptyLabel);
+    }
+    if limits.width < label.len() {
+        return Err(Refusal::LongLabel);
+    }
+    Ok(())
 }
 
 // Refuses an empty label by 3, and one that is too long by 4, by its length.
