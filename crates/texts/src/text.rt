@@ -40,7 +40,8 @@ impl<const N: usize> Text<N> {
 
     // The bytes that are put.
     pub fn bytes(&self) -> &[u8]
-        ensures { result.now ≡ self.now }
+        ensures value { result.now ≡ self.now }
+        ensures fits { length result.now ≤ N }
     {
         self.bytes.as_slice()
     }
