@@ -15,7 +15,7 @@ pub fn run<R: Read, W: Write>(input: &mut R, output: &mut W) -> io::Result<()>
     let mut text = [0; 16385];
     let mut out = Text::<54836>::new();
     let len = read_full(input, &mut text)?;
-    crate::print(&text[..len], &mut out);
+    crate::put_printout(&text[..len], &mut out);
     output.write_all(out.bytes())
 }
 
