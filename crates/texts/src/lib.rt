@@ -1,5 +1,6 @@
-// The line that answers a line of `hubshell`, put behind a text. Bytes and numbers are put by methods of their own, which
-// serve other lines too. No `Display`: a `write!` may fail by its contract, and here the line is put in every case.
+// The line that answers a line of `hubshell`, put behind a text. Bytes and numbers are put by methods of their own,
+// which serve other lines too. No `Display`: a `write!` may fail by its contract, and here the line is put in every
+// case.
 #![tactic(auto)]
 
 mod text;
