@@ -35,6 +35,7 @@ pub fn whole_table(limits: Limits, table: &[u16], store: &[u8]) -> Result<(), Re
 }
 
 // The check: done where the table is sound, else refused by 1, 2 or 6.
+#[tactic(auto, using(crate::proofs::WholeTests::check_by))]
 pub fn check_within(limits: Limits, table: &[u16], store: &[u8]) -> Result<(), Refusal>
     requires { LimitsFit limits }
     ensures { done_says result ≡ check_outcome limits table.now store.now }
