@@ -209,5 +209,6 @@ fn slot_is_zero(image: &Image, slot: usize, fields: &[Field]) -> bool {
 
 // Whether a slot's bytes from one on are 0.
 fn bytes_are_zero(image: &Image, slot: usize, from: usize) -> bool {
-    image.part(slot).iter().skip(from).all(|byte| *byte == 0)
+    let rest = image.part(slot).get(from..).unwrap_or(&[]);
+    rest.iter().all(|byte| *byte == 0)
 }
