@@ -2,10 +2,13 @@
 // share.
 use std::cmp::Ordering;
 
-// The number of a byte: a capital letter's is that of its small letter, any other's the byte plus 1. The map's own: no
-// other judge has it.
+// The number of a byte: a capital letter's is that of its small letter, any other's the byte plus 1.
 fn number_of(byte: u8) -> usize {
-    usize::from(byte.to_ascii_lowercase()) + 1
+    let small = match byte {
+        b'A'..=b'Z' => byte - b'A' + b'a',
+        _ => byte,
+    };
+    usize::from(small) + 1
 }
 
 // The number at a place of a label, counted from 1: its byte's, and 0 past its end.
@@ -31,6 +34,16 @@ pub fn order(one: &[u8], other: &[u8]) -> Ordering {
 pub fn shared(one: &[u8], other: &[u8]) -> usize {
     one.iter()
         .zip(other.iter())
-        .take_while(|(a, b)| a.eq_ignore_ascii_case(b))
+        .take_while(|(a, b)| alike(**a, **b))
         .count()
+}
+
+// Whether two bytes have one number, told without it: the same byte, or the same letter in either case.
+fn alike(one: u8, other: u8) -> bool {
+    one == other || is_capital_of(one, other) || is_capital_of(other, one)
+}
+
+// Whether a byte is the capital letter of a small one.
+fn is_capital_of(byte: u8, small: u8) -> bool {
+    matches!(small, b'a'..=b'z') && byte == small - 32
 }
