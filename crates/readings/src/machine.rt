@@ -58,7 +58,7 @@ pub fn read(text: &[u8], at: usize) -> Reading {
         last: 0,
         end: at,
     };
-    for byte in text.iter().skip(at) {
+    for byte in text.get(at..).unwrap_or(&[]) {
         reading.step(Some(*byte));
         if reading.state.is_last() {
             return reading;
