@@ -2,14 +2,12 @@
 // its start. It shares nothing with the index, no tree, no comparison and no layout.
 #![tactic(auto)]
 
-ghost use Rattle.std.specs.Prelude.{◌<◌, ◌≤◌, IfOk, IfErr};
-ghost use Rattle.arrayvec.specs.ArrayVec.{array_vec_len};
+ghost use Rattle.std.specs.Prelude.{◌<◌, ◌≤◌, length, IfOk, IfErr};
 
 pub mod files;
 pub mod labels;
 pub mod loads;
 
-use arrayvec::ArrayVec;
 use images::refusals::Refusal;
 use samples::shapes::Label;
 use std::cmp::Ordering;
@@ -50,14 +48,17 @@ pub enum Searched {
     },
 }
 
-// How many labels it may hold, of how many bytes; those held, in ascending order; the slots freed and not taken since,
-// in the order in which they were freed; and the highest slot ever taken.
-#[derive(Clone, Drop)]
+// How many labels it may hold, of how many bytes; those held, in ascending order, and how many; the slots freed and not
+// taken since, in the order in which they were freed, and how many; and the highest slot ever taken. Arrays, which copy
+// as they are.
+#[derive(Clone, Copy)]
 pub struct PlainMap {
     slots: usize,
     width: usize,
-    entries: ArrayVec<Entry, 512>,
-    freed: ArrayVec<usize, 512>,
+    entries: [Entry; 512],
+    held: usize,
+    freed: [usize; 512],
+    free: usize,
     high: usize,
 }
 
@@ -67,18 +68,23 @@ impl PlainMap {
         PlainMap {
             slots,
             width,
-            entries: ArrayVec::new(),
-            freed: ArrayVec::new(),
+            entries: [Entry::default(); 512],
+            held: 0,
+            freed: [0; 512],
+            free: 0,
             high: 0,
         }
     }
 
-    pub fn entries(&self) -> &[Entry] {
-        self.entries.as_slice()
+    pub fn entries(&self) -> &[Entry]
+        ensures held { length result.now ≤ self.now.held }
+        ensures room { length result.now ≤ 512 }
+    {
+        self.entries.get(..self.held).unwrap_or(&[])
     }
 
     pub fn held(&self) -> usize {
-        self.entries.len()
+        self.held
     }
 
     pub fn high(&self) -> usize {
@@ -87,7 +93,8 @@ impl PlainMap {
 
     // The slot that was freed last and not taken since.
     pub fn last_freed(&self) -> Option<usize> {
-        self.freed.as_slice().last().copied()
+        let last = self.free.checked_sub(1)?;
+        self.freed.get(last).copied()
     }
 
     // The most leading bytes that a label shares with any one label held; 0 with none held.
@@ -101,11 +108,11 @@ impl PlainMap {
 
     pub fn search(&self, label: &[u8]) -> Result<Searched, Refusal> {
         self.admit(label)?;
-        let entries = self.entries.as_slice();
+        let entries = self.entries();
         Ok(match self.rank_of(label) {
             Ok(rank) => Searched::Found {
-                slot: entries[rank].slot,
-                value: entries[rank].value,
+                slot: self.entries[rank].slot,
+                value: self.entries[rank].value,
             },
             Err(rank) => {
                 let below = rank.checked_sub(1).and_then(|before| entries.get(before));
@@ -136,8 +143,9 @@ impl PlainMap {
                 charge: UNKNOWN,
             },
         );
-        if self.freed.pop().is_none() {
-            self.high = slot;
+        match self.free.checked_sub(1) {
+            Some(free) => self.free = free,
+            None => self.high = slot,
         }
         Ok(slot)
     }
@@ -155,9 +163,10 @@ impl PlainMap {
         let Ok(rank) = self.rank_of(label) else {
             return Err(Refusal::NotHeld);
         };
-        let slot = self.entries.remove(rank).slot;
-        if !self.freed.is_full() {
-            self.freed.push(slot);
+        let slot = self.take(rank);
+        if let Some(place) = self.freed.get_mut(self.free) {
+            *place = slot;
+            self.free = self.free.wrapping_add(1);
         }
         Ok(slot)
     }
@@ -191,25 +200,39 @@ impl PlainMap {
 
     // How many labels are below a label: `Ok` where the next one is it, `Err` where it is not held.
     fn rank_of(&self, label: &[u8]) -> Result<usize, usize>
-        ensures held { IfOk result (λ rank. rank < array_vec_len self.now.entries) }
-        ensures absent { IfErr result (λ rank. rank ≤ array_vec_len self.now.entries) }
+        ensures held { IfOk result (λ rank. rank < self.now.held × rank < 512) }
+        ensures absent { IfErr result (λ rank. rank ≤ self.now.held) }
     {
-        for (rank, entry) in self.entries.as_slice().iter().enumerate() {
+        for (rank, entry) in self.entries().iter().enumerate() {
             match labels::order(entry.label.as_slice(), label) {
                 Ordering::Less => {}
                 Ordering::Equal => return Ok(rank),
                 Ordering::Greater => return Err(rank),
             }
         }
-        Err(self.entries.len())
+        Err(self.held)
     }
 
-    // Puts an entry where so many are below it, if there is room.
-    fn put(&mut self, rank: usize, entry: Entry)
-        requires { rank ≤ array_vec_len self.old.entries }
+    // Puts an entry where so many are below it; none where there is no room.
+    fn put(&mut self, rank: usize, entry: Entry) -> Option<()>
+        requires { rank ≤ self.old.held }
     {
-        if !self.entries.is_full() {
-            self.entries.insert(rank, entry);
+        let above = self.entries.get_mut(rank..=self.held)?;
+        above.rotate_right(1);
+        above[0] = entry;
+        self.held += 1;
+        Some(())
+    }
+
+    // Takes out the entry that has so many below it, and gives its slot.
+    fn take(&mut self, rank: usize) -> usize
+        requires { rank < self.old.held × rank < 512 }
+    {
+        let slot = self.entries[rank].slot;
+        if let Some(from) = self.entries.get_mut(rank..self.held) {
+            from.rotate_left(1);
+            self.held -= 1;
         }
+        slot
     }
 }

@@ -36,7 +36,7 @@ fn append(map: &mut PlainMap, slot: usize, label: &[u8], value: u16) -> Result<(
         value,
         charge: UNKNOWN,
     };
-    map.entries.try_push(held).map_err(|_| Refusal::Full)?;
+    map.put(map.held, held).ok_or(Refusal::Full)?;
     map.high = slot;
     Ok(())
 }

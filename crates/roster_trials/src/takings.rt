@@ -47,7 +47,7 @@ pub fn tried(
     sheet: Sheet,
 ) -> io::Result<()> {
     let mut copy = *image;
-    let mut other = map.clone()?;
+    let mut other = *map;
     made(report, &mut copy, &mut other, text, sheet)
 }
 
