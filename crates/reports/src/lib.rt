@@ -10,11 +10,12 @@ use faults::Fault;
 use images::packing::Answer;
 use std::io::Stdout;
 
-// What came of a call: its answer, where that and what it left agree, or what differs first; and whether its search
-// reached the bound by shared bytes, which is counted beside a fault too.
+// What came of a call: its answer, where that and what it left agree, or what differs first. Counted beside a fault
+// too: the answer that it gave, and whether its search reached the bound by shared bytes.
 #[derive(Clone, Copy, Debug)]
 pub struct Round {
     pub said: Result<Answer, Fault>,
+    pub given: Option<Answer>,
     pub reached: bool,
 }
 

@@ -41,9 +41,9 @@ impl Tally {
         self.calls.add(1);
         self.most.raise_to(held);
         self.reached.add_if(round.reached);
-        match round.said {
-            Ok(answer) => self.count_end(call, answer),
-            Err(_) => self.mismatches.add(1),
+        self.mismatches.add_if(round.said.is_err());
+        if let Some(answer) = round.given {
+            self.count_end(call, answer);
         }
     }
 

@@ -21,6 +21,7 @@ pub fn made(image: &mut Image, map: &mut PlainMap, request: Request) -> Round {
     let plain = answers::on_map(map, request);
     Round {
         said: compare(&found, image, map, request, shared, said, plain),
+        given: said.ok(),
         reached: said.is_ok_and(|said| answers::reached(&found, request.label, shared, said)),
     }
 }
@@ -48,6 +49,7 @@ pub fn tried(image: &Image, request: Request) -> Round {
     let said = calls::make(&mut left, request);
     Round {
         said: judge(image, &left, request, said),
+        given: said.ok(),
         reached: false,
     }
 }

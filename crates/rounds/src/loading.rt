@@ -14,9 +14,10 @@ use reports::faults::{Fault, ensure};
 pub fn made(image: &mut Image, file: &[u8], map: &mut PlainMap) -> Round {
     let found = *image;
     let due = loads::judge(image, file, map);
-    let said = make(image, file);
+    let said = calls::answer(make(image, file));
     Round {
         said: compare(&found, image, map, due, said),
+        given: said.ok(),
         reached: false,
     }
 }
@@ -27,9 +28,9 @@ fn compare(
     left: &Image,
     map: &PlainMap,
     due: Answer,
-    said: usize,
+    said: Result<Answer, Fault>,
 ) -> Result<Answer, Fault> {
-    ensure(calls::answer(said)? == due, Fault::Answer)?;
+    ensure(said? == due, Fault::Answer)?;
     if matches!(due, Answer::Loaded(_)) {
         compare_loaded(found, left, map)?;
     } else {

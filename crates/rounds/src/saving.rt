@@ -21,6 +21,7 @@ pub fn into(image: &Image, map: &PlainMap, output: &mut Output, room: usize) -> 
     let said = calls::answer(make(image, output, room));
     Round {
         said: compare(image, map, output, room, said),
+        given: said.ok(),
         reached: false,
     }
 }

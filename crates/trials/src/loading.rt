@@ -38,8 +38,8 @@ fn saved(report: &mut Report<Tally>, image: &Image, map: &PlainMap) -> io::Resul
     let mut file = outputs::fresh();
     let round = rounds::saving::into(image, map, &mut file, outputs::ALL);
     saving::count(report, round)?;
-    let n = match round.said {
-        Ok(Answer::Saved(n)) => n,
+    let n = match round.given {
+        Some(Answer::Saved(n)) => n,
         _ => 0,
     };
     let mut copy = *image;
