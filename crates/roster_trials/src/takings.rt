@@ -32,7 +32,7 @@ pub fn made(
             Ok(())
         }
         Err(fault) => {
-            report.tally.count_mismatch();
+            report.tally.count_mismatch(Answer::try_from(said).ok());
             tallies::print_mismatch(report, text, due, said, fault)
         }
     }

@@ -56,10 +56,13 @@ impl Tally {
         }
     }
 
-    // Counts a call that did not agree.
-    pub fn count_mismatch(&mut self) {
-        self.calls.add(1);
+    // Counts a call that did not agree, by the answer that it gave, where it gave one.
+    pub fn count_mismatch(&mut self, given: Option<Answer>) {
         self.mismatches.add(1);
+        match given {
+            Some(answer) => self.count(answer),
+            None => self.calls.add(1),
+        }
     }
 }
 
