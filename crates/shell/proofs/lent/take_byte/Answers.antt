@@ -4,4 +4,4 @@ use Rattle.shell.proofs.lent.take_byte.Goals as goal
 
 pub returns-clause-result_after : goal.returns-clause-result_after
 returns-clause-result_after c =
-    said_behind _ _ _ _ _ _ _ _ c.new-said.ensures c.take_byte.ensures.says c.bytes.ensures c.put.ensures.text
+    said_behind _ _ _ _ _ _ _ _ c.new-said.ensures c.take_byte.ensures.says c.bytes.ensures.value c.put.ensures.text
